@@ -1,0 +1,4 @@
+pub mod Words
+pub mod Flags
+pub mod WordLaws
+pub mod FlagLaws
