@@ -1,0 +1,411 @@
+/* A plain C version of document 01's rules: an independent check of `bench`, and what its speed is measured against.
+ * Reads a script from standard input and prints bench's lines; with an argument N it runs the script N times without
+ * printing and prints only the sum of the values, for timing the rules alone. */
+#include <stdint.h>
+#include <stdio.h>
+#include <stdlib.h>
+#include <string.h>
+
+enum { LINES = 55, FLAGS = 16 + LINES, NEST = 8 + LINES };
+
+typedef struct {
+    uint8_t pending[FLAGS], active[FLAGS], enabled[FLAGS], level[FLAGS], priority[FLAGS], nest[NEST];
+    int depth;
+    uint32_t group, basepri, primask, faultmask, npriv, spsel;
+    uint32_t st_control, st_reload, st_current, st_count;
+    uint32_t mpu_control, mpu_region, mpu_base[8], mpu_attributes[8];
+    uint32_t vtable, sysctrl, cfgctrl, faultstat, hfaultstat, mmaddr, faultaddr;
+} Model;
+
+typedef struct { uint32_t refusal, value; } Answer;
+
+static Answer refuse(uint32_t n) { return (Answer){n, 0}; }
+static Answer done(uint32_t v) { return (Answer){0, v}; }
+
+static void fresh(Model *m) { memset(m, 0, sizeof *m); m->cfgctrl = 0x200; }
+
+static int full(const Model *m, int n) { return n == 2 ? -2 : n == 3 ? -1 : m->priority[n]; }
+
+static int grouped(const Model *m, int priority) { return priority < 0 ? priority : priority & ~((2 << m->group) - 1); }
+
+static int execution(const Model *m) {
+    int least = 256;
+    for (int i = 0; i < m->depth; i++) {
+        int g = grouped(m, full(m, m->nest[i]));
+        if (g < least) least = g;
+    }
+    if (m->basepri && grouped(m, (int)m->basepri) < least) least = grouped(m, (int)m->basepri);
+    if (m->primask && least > 0) least = 0;
+    if (m->faultmask && least > -1) least = -1;
+    return least;
+}
+
+static int is_enabled(const Model *m, int n) {
+    return n == 2 || n == 3 || n == 11 || n == 14 || n == 15 || m->enabled[n];
+}
+
+static int privileged(const Model *m) { return !m->npriv || m->depth > 0; }
+
+static uint32_t top(const Model *m) { return m->depth ? m->nest[m->depth - 1] : 0; }
+
+/* ---- registers */
+
+typedef enum { MISSING, ICTYPE, STCTRL, STRELOAD, STCURRENT, ENABLE_SET, ENABLE_CLEAR, PENDING_SET, PENDING_CLEAR, ACTIVE, BYTES,
+    CPUID, INTCTRL, VTABLE, APINT, SYSCTRL, CFGCTRL, SYSHNDCTRL, FAULTSTAT, HFAULTSTAT, MMADDR, FAULTADDR, SWTRIG,
+    MPU_TYPE, MPU_CONTROL, MPU_NUMBER, MPU_BASE, MPU_ATTRIBUTES } Register;
+
+static Register register_at(uint32_t a, int *first) {
+    switch (a) {
+    case 0xE000E004: return ICTYPE;
+    case 0xE000E010: return STCTRL;
+    case 0xE000E014: return STRELOAD;
+    case 0xE000E018: return STCURRENT;
+    case 0xE000E100: case 0xE000E104: *first = 16 + (int)(a - 0xE000E100) * 8; return ENABLE_SET;
+    case 0xE000E180: case 0xE000E184: *first = 16 + (int)(a - 0xE000E180) * 8; return ENABLE_CLEAR;
+    case 0xE000E200: case 0xE000E204: *first = 16 + (int)(a - 0xE000E200) * 8; return PENDING_SET;
+    case 0xE000E280: case 0xE000E284: *first = 16 + (int)(a - 0xE000E280) * 8; return PENDING_CLEAR;
+    case 0xE000E300: case 0xE000E304: *first = 16 + (int)(a - 0xE000E300) * 8; return ACTIVE;
+    case 0xE000ED00: return CPUID;
+    case 0xE000ED04: return INTCTRL;
+    case 0xE000ED08: return VTABLE;
+    case 0xE000ED0C: return APINT;
+    case 0xE000ED10: return SYSCTRL;
+    case 0xE000ED14: return CFGCTRL;
+    case 0xE000ED18: case 0xE000ED1C: case 0xE000ED20: *first = 4 + (int)(a - 0xE000ED18); return BYTES;
+    case 0xE000ED24: return SYSHNDCTRL;
+    case 0xE000ED28: return FAULTSTAT;
+    case 0xE000ED2C: return HFAULTSTAT;
+    case 0xE000ED34: return MMADDR;
+    case 0xE000ED38: return FAULTADDR;
+    case 0xE000ED90: return MPU_TYPE;
+    case 0xE000ED94: return MPU_CONTROL;
+    case 0xE000ED98: return MPU_NUMBER;
+    case 0xE000ED9C: case 0xE000EDA4: case 0xE000EDAC: case 0xE000EDB4: return MPU_BASE;
+    case 0xE000EDA0: case 0xE000EDA8: case 0xE000EDB0: case 0xE000EDB8: return MPU_ATTRIBUTES;
+    case 0xE000EF00: return SWTRIG;
+    }
+    if (a >= 0xE000E400 && a <= 0xE000E434) { *first = 16 + (int)(a - 0xE000E400); return BYTES; }
+    return MISSING;
+}
+
+static int has_byte(int n) { return (n >= 4 && n <= 6) || n == 11 || n == 14 || n == 15 || (n >= 16 && n < FLAGS); }
+
+static uint32_t flags_word(const uint8_t *flags, int first) {
+    uint32_t w = 0;
+    for (int i = 0; i < 32 && first + i < FLAGS; i++) w |= (uint32_t)flags[first + i] << i;
+    return w;
+}
+
+static uint32_t read_register(Model *m, Register r, int first) {
+    uint32_t w = 0;
+    switch (r) {
+    case ICTYPE: return 1;
+    case STCTRL: w = m->st_control | m->st_count << 16; m->st_count = 0; return w;
+    case STRELOAD: return m->st_reload;
+    case STCURRENT: return m->st_current;
+    case ENABLE_SET: case ENABLE_CLEAR: return flags_word(m->enabled, first);
+    case PENDING_SET: case PENDING_CLEAR: return flags_word(m->pending, first);
+    case ACTIVE: return flags_word(m->active, first);
+    case BYTES:
+        for (int i = 0; i < 4; i++) if (has_byte(first + i)) w |= (uint32_t)m->priority[first + i] << 8 * i;
+        return w;
+    case CPUID: return 0x412FC230;
+    case INTCTRL: {
+        uint32_t any = 0;
+        for (int n = 16; n < FLAGS; n++) any |= m->pending[n];
+        return (uint32_t)m->pending[2] << 31 | m->pending[14] << 28 | m->pending[15] << 26 | any << 22 | (m->depth < 2) << 11 | top(m);
+    }
+    case VTABLE: return m->vtable;
+    case APINT: return 0xFA050000 | m->group << 8;
+    case SYSCTRL: return m->sysctrl;
+    case CFGCTRL: return m->cfgctrl;
+    case SYSHNDCTRL:
+        return m->enabled[6] << 18 | m->enabled[5] << 17 | m->enabled[4] << 16 | m->pending[11] << 15 | m->pending[5] << 14
+            | m->pending[4] << 13 | m->pending[6] << 12 | m->active[15] << 11 | m->active[14] << 10 | m->active[11] << 7
+            | m->active[6] << 3 | m->active[5] << 1 | m->active[4];
+    case FAULTSTAT: return m->faultstat;
+    case HFAULTSTAT: return m->hfaultstat;
+    case MMADDR: return m->mmaddr;
+    case FAULTADDR: return m->faultaddr;
+    case MPU_TYPE: return 0x800;
+    case MPU_CONTROL: return m->mpu_control;
+    case MPU_NUMBER: return m->mpu_region;
+    case MPU_BASE: return m->mpu_base[m->mpu_region] | m->mpu_region;
+    case MPU_ATTRIBUTES: return m->mpu_attributes[m->mpu_region];
+    case SWTRIG: case MISSING: return 0;
+    }
+    return 0;
+}
+
+static void write_byte(Model *m, int n, uint32_t v) { if (has_byte(n)) m->priority[n] = v & 0xE0; }
+
+static void write_register(Model *m, Register r, int first, uint32_t v) {
+    switch (r) {
+    case STCTRL: m->st_control = v & 7; break;
+    case STRELOAD: m->st_reload = v & 0xFFFFFF; break;
+    case STCURRENT: m->st_current = m->st_count = 0; break;
+    case ENABLE_SET: case ENABLE_CLEAR:
+        for (int i = 0; i < 32 && first + i < FLAGS; i++) if (v >> i & 1) m->enabled[first + i] = r == ENABLE_SET;
+        break;
+    case PENDING_SET:
+        for (int i = 0; i < 32 && first + i < FLAGS; i++) if (v >> i & 1) m->pending[first + i] = 1;
+        break;
+    case PENDING_CLEAR:
+        for (int i = 0; i < 32 && first + i < FLAGS; i++)
+            if ((v >> i & 1) && !(m->level[first + i] && !m->active[first + i])) m->pending[first + i] = 0;
+        break;
+    case BYTES: for (int i = 0; i < 4; i++) write_byte(m, first + i, v >> 8 * i); break;
+    case INTCTRL:
+        if (v >> 31 & 1) m->pending[2] = 1;
+        if (v >> 28 & 1) m->pending[14] = 1;
+        if (v >> 27 & 1) m->pending[14] = 0;
+        if (v >> 26 & 1) m->pending[15] = 1;
+        if (v >> 25 & 1) m->pending[15] = 0;
+        break;
+    case VTABLE: m->vtable = v & 0x3FFFFE00; break;
+    case APINT: if (v >> 16 == 0x05FA) m->group = v >> 8 & 7; break;
+    case SYSCTRL: m->sysctrl = v & 0x16; break;
+    case CFGCTRL: m->cfgctrl = v & 0x31A; break;
+    case SYSHNDCTRL: for (int i = 0; i < 3; i++) m->enabled[4 + i] = v >> (16 + i) & 1; break;
+    case FAULTSTAT: m->faultstat &= ~v; break;
+    case HFAULTSTAT: m->hfaultstat &= ~v; break;
+    case SWTRIG: if ((v & 0x1FF) < LINES) m->pending[16 + (v & 0x1FF)] = 1; break;
+    case MPU_CONTROL: m->mpu_control = v & 7; break;
+    case MPU_NUMBER: if (v <= 7) m->mpu_region = v; break;
+    case MPU_BASE:
+        if (v & 16) { if ((v & 15) > 7) break; m->mpu_region = v & 15; }
+        m->mpu_base[m->mpu_region] = v & ~31u;
+        break;
+    case MPU_ATTRIBUTES: m->mpu_attributes[m->mpu_region] = v & 0x173FFF3F; break;
+    default: break;
+    }
+}
+
+static uint32_t check(const Model *m, int free, uint32_t w, uint32_t a, Register *r, int *first) {
+    if (w != 1 && w != 2 && w != 4) return 1;
+    if (a % w) return 2;
+    if (!privileged(m) && !free) return 3;
+    *r = register_at(a & ~3u, first);
+    if (*r == MISSING) return 4;
+    if (w != 4 && !(w == 1 && *r == BYTES)) return 5;
+    return 0;
+}
+
+static Answer read_event(Model *m, uint32_t w, uint32_t a) {
+    Register r;
+    int first = 0;
+    uint32_t no = check(m, 0, w, a, &r, &first);
+    if (no) return refuse(no);
+    uint32_t v = read_register(m, r, first);
+    return done(w == 4 ? v : v >> 8 * (a % 4) & 0xFF);
+}
+
+static Answer write_event(Model *m, uint32_t w, uint32_t a, uint32_t v) {
+    Register r;
+    int first = 0;
+    uint32_t no = check(m, w == 4 && a == 0xE000EF00 && (m->cfgctrl & 2), w, a, &r, &first);
+    if (no) return refuse(no);
+    if (w == 4) write_register(m, r, first, v);
+    else write_byte(m, first + (int)(a % 4), v);
+    return done(0);
+}
+
+/* ---- the other events */
+
+static Answer line_event(Model *m, uint32_t line, uint32_t level) {
+    if (line >= LINES || level > 1) return refuse(6);
+    if (level && !m->level[16 + line]) m->pending[16 + line] = 1;
+    m->level[16 + line] = (uint8_t)level;
+    return done(0);
+}
+
+static Answer tick_event(Model *m) {
+    if (!(m->st_control & 1)) return done(0);
+    if (m->st_current == 0) { m->st_current = m->st_reload; return done(0); }
+    if (--m->st_current) return done(0);
+    m->st_count = 1;
+    if (m->st_control & 2) m->pending[15] = 1;
+    return done(1);
+}
+
+static Answer raise(Model *m, int n) {
+    if (is_enabled(m, n) && grouped(m, full(m, n)) < execution(m)) { m->pending[n] = 1; return done((uint32_t)n); }
+    m->pending[3] = 1;
+    m->hfaultstat |= 1u << 30;
+    return done(3);
+}
+
+static Answer fault_event(Model *m, uint32_t bit, uint32_t address) {
+    int n = bit <= 1 ? 4 : bit == 8 || bit == 9 ? 5 : (bit >= 16 && bit <= 19) || bit == 24 || bit == 25 ? 6 : 0;
+    if (!n) return refuse(7);
+    if (execution(m) < 0) return refuse(10);
+    m->faultstat |= 1u << bit;
+    if (bit == 1) { m->faultstat |= 1u << 7; m->mmaddr = address; }
+    if (bit == 9) { m->faultstat |= 1u << 15; m->faultaddr = address; }
+    return raise(m, n);
+}
+
+static Answer svc_event(Model *m) { return execution(m) < 0 ? refuse(10) : raise(m, 11); }
+
+static Answer special_event(Model *m, uint32_t which, uint32_t v) {
+    if (which > 4) return refuse(6);
+    if (!privileged(m)) return done(0);
+    uint32_t b = v & 0xE0;
+    switch (which) {
+    case 0: m->primask = v & 1; break;
+    case 1: if (!(v & 1) || execution(m) >= 0) m->faultmask = v & 1; break;
+    case 2: m->basepri = b; break;
+    case 3: if (b && (b < m->basepri || !m->basepri)) m->basepri = b; break;
+    case 4: m->npriv = v & 1; if (!m->depth) m->spsel = v >> 1 & 1; break;
+    }
+    return done(0);
+}
+
+static Answer entry_event(Model *m) {
+    int limit = execution(m), best = 0;
+    for (int n = 1; n < FLAGS; n++)
+        if (m->pending[n] && is_enabled(m, n) && grouped(m, full(m, n)) < limit && (!best || full(m, n) < full(m, best))) best = n;
+    if (!best) return refuse(8);
+    m->pending[best] = 0;
+    m->active[best] = 1;
+    m->nest[m->depth++] = (uint8_t)best;
+    m->spsel = 0;
+    return done((uint32_t)best);
+}
+
+static Answer return_event(Model *m, uint32_t v) {
+    if (!(v == 0xFFFFFFF1 ? m->depth >= 2 : (v == 0xFFFFFFF9 || v == 0xFFFFFFFD) && m->depth == 1)) return refuse(9);
+    int n = m->nest[--m->depth];
+    m->nest[m->depth] = 0;
+    m->active[n] = 0;
+    m->faultmask = 0;
+    if (v != 0xFFFFFFF1) m->spsel = v == 0xFFFFFFFD;
+    if (n >= 16 && m->level[n]) m->pending[n] = 1;
+    return done(top(m));
+}
+
+static int default_allows(uint32_t kind, uint32_t a) {
+    return kind != 2 || a < 0x40000000 || (a >= 0x60000000 && a < 0xA0000000);
+}
+
+static int matches(uint32_t base, uint32_t attributes, uint32_t a) {
+    uint32_t size = attributes >> 1 & 31;
+    if (!(attributes & 1) || size < 4) return 0;
+    if (size < 31 && a >> (size + 1) != base >> (size + 1)) return 0;
+    return size < 7 || !(attributes >> (8 + (a >> (size - 2) & 7)) & 1);
+}
+
+static int allows(uint32_t attributes, uint32_t kind, int priv) {
+    static const char *const rights[8] = {"00", "30", "31", "33", "00", "10", "11", "11"}; /* bit 0 read, bit 1 write */
+    int r = rights[attributes >> 24 & 7][priv ? 0 : 1] - '0';
+    if (kind == 1) return r >> 1 & 1;
+    return (r & 1) && !(kind == 2 && attributes >> 28 & 1);
+}
+
+static int permits(const Model *m, uint32_t kind, uint32_t a) {
+    if (kind == 2 && a >= 0xE0000000) return 0;
+    if (!(m->mpu_control & 1) || (a >= 0xE0000000 && a <= 0xE00FFFFF) || (!(m->mpu_control & 2) && execution(m) < 0))
+        return default_allows(kind, a);
+    for (int n = 7; n >= 0; n--)
+        if (matches(m->mpu_base[n], m->mpu_attributes[n], a)) return allows(m->mpu_attributes[n], kind, privileged(m));
+    return (m->mpu_control & 4) && privileged(m) && default_allows(kind, a);
+}
+
+static Answer access_event(const Model *m, uint32_t kind, uint32_t w, uint32_t a) {
+    if (kind > 2) return refuse(6);
+    if (kind == 2 ? w != 2 : w != 1 && w != 2 && w != 4) return refuse(1);
+    if (a % w) return refuse(2);
+    return done(permits(m, kind, a) ? 0 : kind == 2 ? 2 : 1);
+}
+
+/* ---- scripts */
+
+static int number(const uint8_t *s, size_t n, size_t *at, uint32_t *out) {
+    uint64_t v = 0;
+    for (int i = 0; i < 5; i++) {
+        if (*at >= n) return 0;
+        uint8_t b = s[(*at)++];
+        v |= (uint64_t)(b & 127) << 7 * i;
+        if (b < 128) {
+            if ((i && !b) || v > 0xFFFFFFFF) return 0;
+            *out = (uint32_t)v;
+            return 1;
+        }
+    }
+    return 0;
+}
+
+static const int argument_count[12] = {0, 2, 3, 2, 0, 0, 2, 0, 2, 0, 1, 3};
+
+static Answer step(Model *m, uint32_t kind, const uint32_t *a) {
+    switch (kind) {
+    case 1: return read_event(m, a[0], a[1]);
+    case 2: return write_event(m, a[0], a[1], a[2]);
+    case 3: return line_event(m, a[0], a[1]);
+    case 4: m->pending[2] = 1; return done(0);
+    case 5: return tick_event(m);
+    case 6: return fault_event(m, a[0], a[1]);
+    case 7: return svc_event(m);
+    case 8: return special_event(m, a[0], a[1]);
+    case 9: return entry_event(m);
+    case 10: return return_event(m, a[0]);
+    default: return access_event(m, a[0], a[1], a[2]);
+    }
+}
+
+static char out[1 << 16];
+static size_t out_length;
+
+static void put(char c) { out[out_length++] = c; }
+
+static void put_number(uint32_t n) {
+    char digits[10];
+    int k = 0;
+    do digits[k++] = (char)('0' + n % 10); while (n /= 10);
+    while (k) put(digits[--k]);
+}
+
+static void put_line(uint32_t number, Answer r, const Model *m) {
+    put_number(number); put(' ');
+    put_number(r.refusal); put(' ');
+    put_number(r.value); put(' ');
+    put_number(top(m)); put(' ');
+    int e = execution(m);
+    if (e < 0) { put('-'); e = -e; }
+    put_number((uint32_t)e); put('\n');
+    if (out_length > sizeof out - 100) { fwrite(out, 1, out_length, stdout); out_length = 0; }
+}
+
+/* Runs the script once; the refusal that breaks it, with the place, or 0. */
+static uint32_t run(const uint8_t *s, size_t n, int print, uint64_t *sum, size_t *bad) {
+    Model m;
+    fresh(&m);
+    size_t at = 0;
+    for (uint32_t k = 1; at < n; k++) {
+        uint32_t kind, a[3] = {0, 0, 0};
+        *bad = at;
+        if (!number(s, n, &at, &kind)) return 13;
+        if (kind < 1 || kind > 11) return 14;
+        for (int i = 0; i < argument_count[kind]; i++) if (!number(s, n, &at, &a[i])) return 13;
+        Answer r = step(&m, kind, a);
+        *sum += r.refusal + r.value;
+        if (print) put_line(k, r, &m);
+    }
+    return 0;
+}
+
+int main(int argc, char **argv) {
+    static uint8_t script[65537];
+    size_t n = fread(script, 1, sizeof script, stdin), bad = 65536;
+    uint64_t sum = 0;
+    uint32_t broken = 15;
+    if (argc > 1) {
+        for (long i = atol(argv[1]); i > 0; i--) run(script, n, 0, &sum, &bad);
+        printf("%llu\n", (unsigned long long)sum);
+        return 0;
+    }
+    if (n <= 65536) broken = run(script, n, 1, &sum, &bad);
+    fwrite(out, 1, out_length, stdout);
+    if (broken) printf("script %u at %zu\n", broken, bad);
+    return 0;
+}

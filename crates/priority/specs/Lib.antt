@@ -1,0 +1,4 @@
+pub mod Priority
+pub mod Order
+pub mod Laws
+pub mod Levels
