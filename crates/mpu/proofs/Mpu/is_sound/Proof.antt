@@ -1,0 +1,41 @@
+-- The tests of the definition; its arrays have eight words.
+use mathlib.Core.Path.{_≡_, sym, _∙_}
+use lib.ListN.{length}
+use Rattle.mpu.specs.Soundness.{both, soundMpu}
+use borrow.Author.Needs.{needs}
+use Rattle.mpu.proofs.Mpu.is_sound.Statement.{statement}
+use Rattle.mpu.proofs.Mpu.is_sound.Tie as tie
+
+-- the arrays' lengths, asked where the function begins
+lengths : (c : tie.Start) → (length (c .args .self .bases) ≡ 8) × (length (c .args .self .attributes) ≡ 8)
+lengths c = (search needs, search needs)
+
+both-requires : tie.Need-both-requires
+both-requires c κs = search needs
+
+slice-aggregate-regions-kept : tie.Need-slice-aggregate-regions-kept
+slice-aggregate-regions-kept c = search needs
+
+slice-aggregate-regions-kept-2 : tie.Need-slice-aggregate-regions-kept-2
+slice-aggregate-regions-kept-2 c = search needs
+
+regions-kept-requires : tie.Need-regions-kept-requires
+regions-kept-requires c κs = let l = lengths (c .before .before .before .before .before .before .before) in l .0 ∙ sym (l .1)
+
+both-requires-2 : tie.Need-both-requires-2
+both-requires-2 c κs = search needs
+
+returns : tie.Need-returns
+unfolding both soundMpu
+returns c = let l = lengths (c .before .before .before .before .before .before .before .before .before) in simp (c .both2 .ensures, c .before .regions-kept .ensures, c .before .before .before .before .both .ensures, l .0, l .1)
+
+pub is-sound-spec : {M : Type 1} → statement M
+is-sound-spec =
+    tie.close
+    (tie.spec
+    both-requires
+    slice-aggregate-regions-kept
+    slice-aggregate-regions-kept-2
+    regions-kept-requires
+    both-requires-2
+    returns)

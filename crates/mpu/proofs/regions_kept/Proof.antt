@@ -1,0 +1,94 @@
+-- The loop has tested the regions passed; the measure is what is left of them.
+use Prim.Native.Nat.{_≤_, _-_}
+use mathlib.Core.Path.{_≡_, _∙_, ap, refl}
+use native.Mathlib.Nat.{le-antisymm}
+use native.Mathlib.Numerals.{add-one}
+use native.Mathlib.Omega.{arith}
+use lib.ListN.{length}
+use Rattle.mpu.specs.Soundness.{allBelow, regionKept}
+use borrow.Author.Needs.{needs}
+use Rattle.mpu.proofs.regions_kept.Statement.{statement}
+use Rattle.mpu.proofs.regions_kept.Tie as tie
+
+abbrev Inv-loop : tie.InvT-loop
+Inv-loop bases attributes ok₀ i₀ ok i = (i ≤ length attributes) × (ok ≡ allBelow (regionKept bases attributes) i)
+
+abbrev μ-loop : tie.MeasureT-loop
+μ-loop bases attributes ok₀ i₀ ok i = length attributes - i
+
+loop-holds : tie.Need-loop-holds Inv-loop μ-loop
+unfolding allBelow
+loop-holds c = (omega arith, refl)
+
+mul-kept-base : tie.Need-mul-kept-base Inv-loop μ-loop
+mul-kept-base c = omega arith
+
+shared-slice-read-kept-base : tie.Need-shared-slice-read-kept-base Inv-loop μ-loop
+shared-slice-read-kept-base c = omega arith
+
+kept-base-requires : tie.Need-kept-base-requires Inv-loop μ-loop
+kept-base-requires c κs = search needs
+
+mul-base : tie.Need-mul-base Inv-loop μ-loop
+mul-base c = omega arith
+
+shared-slice-read-base : tie.Need-shared-slice-read-base Inv-loop μ-loop
+shared-slice-read-base c = omega arith
+
+mul-kept-attributes : tie.Need-mul-kept-attributes Inv-loop μ-loop
+mul-kept-attributes c = omega arith
+
+shared-slice-read-kept-attributes : tie.Need-shared-slice-read-kept-attributes Inv-loop μ-loop
+shared-slice-read-kept-attributes c = omega arith
+
+kept-attributes-requires : tie.Need-kept-attributes-requires Inv-loop μ-loop
+kept-attributes-requires c κs = search needs
+
+mul-both : tie.Need-mul-both Inv-loop μ-loop
+mul-both c = omega arith
+
+shared-slice-read-both : tie.Need-shared-slice-read-both Inv-loop μ-loop
+shared-slice-read-both c = omega arith
+
+both-requires : tie.Need-both-requires Inv-loop μ-loop
+both-requires c κs = search needs
+
+both-requires-2 : tie.Need-both-requires-2 Inv-loop μ-loop
+both-requires-2 c κs = search needs
+
+add-i : tie.Need-add-i Inv-loop μ-loop
+add-i c = omega arith
+
+loop-less : tie.Need-loop-less Inv-loop μ-loop
+loop-less c = omega arith
+
+loop-again : tie.Need-loop-again Inv-loop μ-loop
+unfolding allBelow regionKept
+loop-again c = (omega arith, c .both2 .ensures ∙ simp (add-one, c .before .before .before .before .before .before .before .before .before .loop .inv .1, c .before .both .ensures, c .before .before .before .kept-attributes .ensures, c .before .before .before .before .before .before .kept-base .ensures))
+
+returns : tie.Need-returns Inv-loop μ-loop
+returns c = c .before .loop .inv .1 ∙ ap (allBelow _) (le-antisymm (c .before .loop .inv .0) (c .loop-test .left))
+
+pub regions-kept-spec : {M : Type 1} → statement M
+regions-kept-spec =
+    tie.close
+    (tie.spec
+    Inv-loop
+    μ-loop
+    loop-holds
+    mul-kept-base
+    shared-slice-read-kept-base
+    kept-base-requires
+    mul-base
+    shared-slice-read-base
+    mul-kept-attributes
+    shared-slice-read-kept-attributes
+    kept-attributes-requires
+    mul-both
+    shared-slice-read-both
+    both-requires
+    both-requires-2
+    add-i
+    loop-less
+    loop-again
+    returns)
