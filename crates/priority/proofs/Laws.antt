@@ -1,8 +1,9 @@
 -- Words as the machine cuts them: a shift down and up again is the word without its low bits, and a small word is the number that it is as an i32.
-use Prim.Native.Nat.{ℕ, _*_, _/_, _%_, _^_, _<_}
+use Prim.Native.Nat.{ℕ, _*_, _/_, _%_, _^_, _≤_, _<_}
+use lib.Pow.{pow-mono}
 use mathlib.Core.Path.{_≡_, refl}
 use mathlib.Core.Bool.{true, false}
-use native.Mathlib.Nat.{div-mul-le-self, mod-eq-of-lt}
+use native.Mathlib.Nat.{div-mul-le-self, div-eq-of-lt, mod-eq-of-lt, zero-mul}
 use native.Mathlib.Omega.{arith}
 use lib.IntN.{ℤ, pos, negsuc, natAbs}
 use lib.Signed.{ltZ}
@@ -16,6 +17,10 @@ use Rattle.priority.specs.Order.{is-false}
 
 pub cut-exact : (b k : ℕ) → b < 2 ^ 32 → (b / 2 ^ k * 2 ^ k) % 2 ^ 32 ≡ b / 2 ^ k * 2 ^ k
 cut-exact b k h = let l = div-mul-le-self b (2 ^ k) in mod-eq-of-lt (omega arith)
+
+-- a cut of 32 bits or more leaves nothing of a word
+pub cut-whole : (b k : ℕ) → b < 2 ^ 32 → 32 ≤ k → b / 2 ^ k * 2 ^ k ≡ 0
+cut-whole b k h l = let m = pow-mono l in rw (div-eq-of-lt {n = b} {m = 2 ^ k} (omega arith)) (zero-mul (2 ^ k))
 
 -- cut so, a byte stays one
 pub cut-byte : (b k : ℕ) → b < 256 → (b / 2 ^ k * 2 ^ k) % 2 ^ 32 < 256

@@ -20,18 +20,19 @@ pub fn kept_byte(b: u32, w: u32) -> u8
     ((b % 256) >> cut << cut) as u8
 }
 
-// The priority b with bits p:0 cleared. Here and below, p is three bits of APINT: a sound state's is below 8.
+// The priority b with bits p:0 cleared. APINT holds p below 8; any other is answered too.
 pub fn group_of(b: u32, p: u32) -> u32
-    requires { ⌜ p < 8 ⌝ }
     ensures { λ r. ⌜ r ≡ groupOf p b ⌝ }
 {
+    if 31 <= p {
+        return 0;
+    }
     let cut = p + 1;
     b >> cut << cut
 }
 
 // A priority's group number: the fixed, negative ones are their own.
 fn grouped(z: i32, p: u32) -> i32
-    requires { ⌜ p < 8 ⌝ }
     ensures { λ r. ⌜ r ≡ grouped p z ⌝ }
 {
     if z < 0 {
@@ -63,7 +64,6 @@ pub fn full_priority(priority: &[u8], n: usize) -> i32
 }
 
 pub fn group_priority(priority: &[u8], n: usize, p: u32) -> i32
-    requires { ⌜ p < 8 ⌝ }
     ensures { λ r. ⌜ r ≡ groupPriority p (now (priority .entry)) n ⌝ }
 {
     grouped(full_priority(priority, n), p)
@@ -89,7 +89,6 @@ fn under(on: bool, a: i32, b: i32) -> i32
 
 // The least group number so far, with n's if it is active: one test for a number that is not.
 fn under_active(least: i32, active: bool, priority: &[u8], n: usize, p: u32) -> i32
-    requires { ⌜ p < 8 ⌝ }
     ensures { λ r. ⌜ r ≡ under active (groupPriority p (now (priority .entry)) n) least ⌝ }
 {
     if active {
@@ -99,7 +98,6 @@ fn under_active(least: i32, active: bool, priority: &[u8], n: usize, p: u32) -> 
 }
 
 fn least_active(active: &[bool], priority: &[u8], p: u32) -> i32
-    requires { ⌜ p < 8 ⌝ }
     ensures { λ r. ⌜ r ≡ leastActive p (now (priority .entry)) (now (active .entry)) (length (now (active .entry))) ⌝ }
 {
     let mut least: i32 = 256;
@@ -112,7 +110,6 @@ fn least_active(active: &[bool], priority: &[u8], p: u32) -> i32
 }
 
 fn masked(least: i32, p: u32, basepri: u8, primask: bool, faultmask: bool) -> i32
-    requires { ⌜ p < 8 ⌝ }
     ensures { λ r. ⌜ r ≡ masked p basepri primask faultmask least ⌝ }
 {
     let base = under(basepri != 0, grouped(signed(basepri), p), least);
@@ -127,7 +124,6 @@ pub fn execution_priority(
     primask: bool,
     faultmask: bool,
 ) -> i32
-    requires { ⌜ p < 8 ⌝ }
     ensures { λ r. ⌜ r ≡ executionPriority p (now (priority .entry)) (now (active .entry)) basepri primask faultmask ⌝ }
 {
     masked(
@@ -146,7 +142,7 @@ fn wide(x: u8) -> usize
 }
 
 fn least_nested(nest: &[u8], depth: usize, priority: &[u8], p: u32) -> i32
-    requires { ⌜ (depth ≤ length (now nest)) × (p < 8) ⌝ }
+    requires { ⌜ depth ≤ length (now nest) ⌝ }
     ensures { λ r. ⌜ r ≡ leastNested p (now (priority .entry)) (now (nest .entry)) depth ⌝ }
 {
     let mut least: i32 = 256;
@@ -168,7 +164,7 @@ pub fn execution_nested(
     primask: bool,
     faultmask: bool,
 ) -> i32
-    requires { ⌜ (depth ≤ length (now nest)) × (p < 8) ⌝ }
+    requires { ⌜ depth ≤ length (now nest) ⌝ }
     ensures { λ r. ⌜ r ≡ executionNested p (now (priority .entry)) (now (nest .entry)) depth basepri primask faultmask ⌝ }
 {
     masked(
@@ -208,7 +204,6 @@ pub fn is_enabled(enabled: &[bool], n: usize) -> bool
 
 // Enabled, and of a group number below the limit.
 fn is_able(enabled: &[bool], priority: &[u8], n: usize, p: u32, limit: i32) -> bool
-    requires { ⌜ p < 8 ⌝ }
     ensures { λ r. ⌜ r ≡ (isEnabled (now (enabled .entry)) n && ltZ (groupPriority p (now (priority .entry)) n) limit) ⌝ }
 {
     if is_enabled(enabled, n) {
@@ -241,7 +236,6 @@ fn consider(
     p: u32,
     limit: i32,
 ) -> Found
-    requires { ⌜ p < 8 ⌝ }
     ensures { λ r. ⌜ r ≡ better (pending && isEnabled (now (enabled .entry)) n && ltZ (groupPriority p (now (priority .entry)) n) limit) (fullPriority (now (priority .entry))) n found ⌝ }
 {
     if pending {
@@ -259,7 +253,6 @@ pub fn best_pending(
     p: u32,
     limit: i32,
 ) -> Found
-    requires { ⌜ p < 8 ⌝ }
     ensures { λ r. ⌜ r ≡ bestPending p (now (priority .entry)) (now (pending .entry)) (now (enabled .entry)) limit ⌝ }
 {
     let mut found = Found::Nothing;

@@ -1,9 +1,14 @@
--- A shift down and up again clears the low bits.
-use Rattle.priority.proofs.Laws.{cut-exact}
+-- A shift down and up again clears the low bits; a cut past the word leaves nothing.
 use Prim.Native.Nat.{_+_}
+use mathlib.Core.Path.{sym}
+use native.Mathlib.Omega.{arith}
 use borrow.Author.Needs.{needs}
+use Rattle.priority.proofs.Laws.{cut-exact, cut-whole}
 use Rattle.priority.proofs.group_of.Statement.{statement}
 use Rattle.priority.proofs.group_of.Tie as tie
+
+returns : tie.Need-returns
+returns c = sym (cut-whole (c .before .args .b) (c .before .args .p + 1) (c .before .fits .b .fits) (omega arith))
 
 add-cut : tie.Need-add-cut
 add-cut c = search needs
@@ -14,8 +19,8 @@ shr-result c = search needs
 shl-result : tie.Need-shl-result
 shl-result c = search needs
 
-returns : tie.Need-returns
-returns c = cut-exact (c .args .b) (c .args .p + 1) (c .fits .b .fits)
+returns-2 : tie.Need-returns-2
+returns-2 c = cut-exact (c .before .args .b) (c .before .args .p + 1) (c .before .fits .b .fits)
 
 pub group-of-spec : {M : Type 1} → statement M
-group-of-spec = tie.close (tie.spec add-cut shr-result shl-result returns)
+group-of-spec = tie.close (tie.spec returns add-cut shr-result shl-result returns-2)

@@ -1,0 +1,4 @@
+pub mod Frame
+pub mod Accepted
+pub mod FrameLaws
+pub mod RoundTrip

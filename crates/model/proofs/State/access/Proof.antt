@@ -1,0 +1,29 @@
+-- The test of refusal 16 decides between the call on a sound state and the refusal.
+use Rattle.script.specs.Event.{accessNumber}
+use mathlib.Core.Path.{_∙_, sym, ap}
+use Rattle.model.specs.View.{reply}
+use Rattle.model.proofs.Laws.{tested, passes, refuses}
+use borrow.Author.Needs.{needs}
+use Rattle.model.proofs.State.access.Statement.{statement}
+use Rattle.model.proofs.State.access.Tie as tie
+
+is-sound-requires : tie.Need-is-sound-requires
+is-sound-requires c κs = search needs
+
+act-access-requires : tie.Need-act-access-requires
+act-access-requires c κs = tested _ _ (sym (c .before .is-sound .ensures) ∙ c .if1 .taken)
+
+returns : tie.Need-returns
+unfolding accessNumber
+returns c = c .act-access .ensures ∙ ap reply (passes _ _ _ (sym (c .before .before .is-sound .ensures) ∙ c .before .if1 .taken))
+
+refuse-requires : tie.Need-refuse-requires
+refuse-requires c κs = search needs
+
+returns-2 : tie.Need-returns-2
+unfolding accessNumber
+returns-2 c = c .refuse .ensures ∙ ap reply (refuses _ _ _ (sym (c .before .before .is-sound .ensures) ∙ c .before .if1 .left))
+
+pub access-spec : {M : Type 1} → statement M
+access-spec =
+    tie.close (tie.spec is-sound-requires act-access-requires returns refuse-requires returns-2)

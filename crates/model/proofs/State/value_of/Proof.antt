@@ -1,0 +1,89 @@
+-- Each part answers for its registers.
+use mathlib.Core.Path.{_∙_, sym}
+use Rattle.rules.specs.Reads.{valueOf}
+use borrow.Author.Needs.{needs}
+use Rattle.model.proofs.State.value_of.Statement.{statement}
+use Rattle.model.proofs.State.value_of.Tie as tie
+
+enum-told : tie.Need-enum-told
+enum-told c = search needs
+
+enum-known-register : tie.Need-enum-known-register
+enum-known-register c = search needs
+
+timer-value-requires : tie.Need-timer-value-requires
+timer-value-requires c κs = search needs
+
+enum-known-register-2 : tie.Need-enum-known-register-2
+enum-known-register-2 c = search needs
+
+bank-value-requires : tie.Need-bank-value-requires
+bank-value-requires c κs = search needs
+
+enum-known-register-3 : tie.Need-enum-known-register-3
+enum-known-register-3 c = search needs
+
+slice-aggregate-bytes-value : tie.Need-slice-aggregate-bytes-value
+slice-aggregate-bytes-value c = search needs
+
+bytes-value-requires : tie.Need-bytes-value-requires
+bytes-value-requires c κs = search needs
+
+enum-known-register-4 : tie.Need-enum-known-register-4
+enum-known-register-4 c = search needs
+
+system-value-requires : tie.Need-system-value-requires
+system-value-requires c κs = search needs
+
+enum-known-register-5 : tie.Need-enum-known-register-5
+enum-known-register-5 c = search needs
+
+read-requires : tie.Need-read-requires
+read-requires c κs = search needs
+
+returns : tie.Need-returns
+unfolding valueOf
+returns c = simp (c .enum-told .given .1)
+
+returns-2 : tie.Need-returns-2
+unfolding valueOf
+returns-2 c = c .timer-value .ensures ∙ simp (c .before .before .register .given .1)
+
+returns-3 : tie.Need-returns-3
+unfolding valueOf
+returns-3 c = c .bank-value .ensures ∙ simp (c .before .before .register2 .given .1)
+
+returns-4 : tie.Need-returns-4
+unfolding valueOf
+returns-4 c = c .bytes-value .ensures ∙ simp (c .before .before .before .register3 .given .1)
+
+returns-5 : tie.Need-returns-5
+unfolding valueOf
+returns-5 c = c .system-value .ensures ∙ simp (c .before .before .register4 .given .1)
+
+returns-6 : tie.Need-returns-6
+unfolding valueOf
+returns-6 c = c .read .ensures ∙ simp (c .before .before .register5 .given .1)
+
+pub value-of-spec : {M : Type 1} → statement M
+value-of-spec =
+    tie.close
+    (tie.spec
+    enum-told
+    enum-known-register
+    timer-value-requires
+    enum-known-register-2
+    bank-value-requires
+    enum-known-register-3
+    slice-aggregate-bytes-value
+    bytes-value-requires
+    enum-known-register-4
+    system-value-requires
+    enum-known-register-5
+    read-requires
+    returns
+    returns-2
+    returns-3
+    returns-4
+    returns-5
+    returns-6)

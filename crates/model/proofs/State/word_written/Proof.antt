@@ -1,0 +1,85 @@
+-- Each part takes the writes to its registers.
+use mathlib.Core.Path.{_∙_, sym}
+use Rattle.rules.specs.Writes.{wordWritten}
+use borrow.Author.Needs.{needs}
+use Rattle.model.proofs.State.word_written.Statement.{statement}
+use Rattle.model.proofs.State.word_written.Tie as tie
+
+enum-told : tie.Need-enum-told
+enum-told c = search needs
+
+enum-known-register : tie.Need-enum-known-register
+enum-known-register c = search needs
+
+timer-written-requires : tie.Need-timer-written-requires
+timer-written-requires c κs = search needs
+
+enum-known-register-2 : tie.Need-enum-known-register-2
+enum-known-register-2 c = search needs
+
+bank-written-requires : tie.Need-bank-written-requires
+bank-written-requires c κs = search needs
+
+enum-known-register-3 : tie.Need-enum-known-register-3
+enum-known-register-3 c = search needs
+
+bytes-written-requires : tie.Need-bytes-written-requires
+bytes-written-requires c κs = search needs
+
+enum-known-register-4 : tie.Need-enum-known-register-4
+enum-known-register-4 c = search needs
+
+system-written-requires : tie.Need-system-written-requires
+system-written-requires c κs = search needs
+
+enum-known-register-5 : tie.Need-enum-known-register-5
+enum-known-register-5 c = search needs
+
+guard-written-requires : tie.Need-guard-written-requires
+guard-written-requires c κs = search needs
+
+returns : tie.Need-returns
+unfolding wordWritten
+returns c = simp (c .enum-told .given .1)
+
+returns-2 : tie.Need-returns-2
+unfolding wordWritten
+returns-2 c = c .timer-written .ensures ∙ simp (c .before .before .register .given .1)
+
+returns-3 : tie.Need-returns-3
+unfolding wordWritten
+returns-3 c = c .bank-written .ensures ∙ simp (c .before .before .register2 .given .1)
+
+returns-4 : tie.Need-returns-4
+unfolding wordWritten
+returns-4 c = c .bytes-written .ensures ∙ simp (c .before .before .register3 .given .1)
+
+returns-5 : tie.Need-returns-5
+unfolding wordWritten
+returns-5 c = c .system-written .ensures ∙ simp (c .before .before .register4 .given .1)
+
+returns-6 : tie.Need-returns-6
+unfolding wordWritten
+returns-6 c = c .guard-written .ensures ∙ simp (c .before .before .register5 .given .1)
+
+pub word-written-spec : {M : Type 1} → statement M
+word-written-spec =
+    tie.close
+    (tie.spec
+    enum-told
+    enum-known-register
+    timer-written-requires
+    enum-known-register-2
+    bank-written-requires
+    enum-known-register-3
+    bytes-written-requires
+    enum-known-register-4
+    system-written-requires
+    enum-known-register-5
+    guard-written-requires
+    returns
+    returns-2
+    returns-3
+    returns-4
+    returns-5
+    returns-6)

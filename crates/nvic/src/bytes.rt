@@ -1,0 +1,74 @@
+// Priority bytes, one or four at a time. Past the end a byte reads 0 and takes nothing.
+ghost use mathlib.Core.Path.{_≡_};
+ghost use Prim.Native.Nat.{_+_, _<_, _≤_};
+ghost use lib.ListN.{getD, set};
+ghost use Rattle.bits.specs.Words.{byteAt};
+ghost use Rattle.rules.specs.Reads.{bytesValue};
+ghost use Rattle.rules.specs.Writes.{withByte, withBytes};
+use rules::Chip;
+use soundness::has_byte;
+
+// Byte n + k.
+fn byte_after(priority: &[u8], n: usize, k: usize) -> u8
+    ensures { λ r. ⌜ r ≡ getD (now (priority .entry)) (n + k) 0 ⌝ }
+{
+    if n < priority.len() {
+        if k < priority.len() - n {
+            return priority[n + k];
+        }
+    }
+    0
+}
+
+// The bytes from n on as a word, the first the lowest.
+pub fn bytes_value(priority: &[u8], n: usize) -> u32
+    ensures { λ r. ⌜ r ≡ bytesValue (now (priority .entry)) n ⌝ }
+{
+    bits::word_of_bytes(
+        byte_after(priority, n, 0),
+        byte_after(priority, n, 1),
+        byte_after(priority, n, 2),
+        byte_after(priority, n, 3),
+    )
+}
+
+fn store_byte(priority: &mut [u8], n: usize, b: u8)
+    ensures { λ _. ⌜ now (priority .exit) ≡ set (now (priority .entry)) n b ⌝ }
+{
+    if n < priority.len() {
+        priority[n] = b;
+    }
+}
+
+// The low byte of b at n, cut to the chip's bits; nothing where no exception has a byte. A chip keeps 3 to 8 bits.
+pub fn put_byte(priority: &mut [u8], chip: Chip, n: usize, b: u32)
+    requires { ⌜ chip .bits ≤ 8 ⌝ }
+    ensures { λ _. ⌜ now (priority .exit) ≡ withByte chip n b (now (priority .entry)) ⌝ }
+{
+    if has_byte(chip, n) {
+        store_byte(priority, n, priority::kept_byte(b, chip.bits));
+    }
+}
+
+// Byte k of v at n + k.
+fn put_byte_after(priority: &mut [u8], chip: Chip, n: usize, k: u32, v: u32)
+    requires { ⌜ (chip .bits ≤ 8) × (k < 4) ⌝ }
+    ensures { λ _. ⌜ now (priority .exit) ≡ withByte chip (n + k) (byteAt k v) (now (priority .entry)) ⌝ }
+{
+    let lane = k as usize;
+    if n < priority.len() {
+        if lane < priority.len() - n {
+            put_byte(priority, chip, n + lane, bits::wide(bits::byte_of(v, k)));
+        }
+    }
+}
+
+pub fn put_bytes(priority: &mut [u8], chip: Chip, n: usize, v: u32)
+    requires { ⌜ chip .bits ≤ 8 ⌝ }
+    ensures { λ _. ⌜ now (priority .exit) ≡ withBytes chip n v (now (priority .entry)) ⌝ }
+{
+    put_byte_after(priority, chip, n, 0, v);
+    put_byte_after(priority, chip, n, 1, v);
+    put_byte_after(priority, chip, n, 2, v);
+    put_byte_after(priority, chip, n, 3, v);
+}

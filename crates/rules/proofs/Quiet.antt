@@ -1,0 +1,77 @@
+-- A change that leaves the nest alone keeps a model sound where the part that it changes stays sound. Most events are made of such changes.
+use Prim.Native.Nat.{ℕ, _<_}
+use mathlib.Core.Path.{_≡_, refl}
+use mathlib.Core.List.{List}
+use mathlib.Core.Bool.{Bool, true}
+use lib.Dec.{T}
+use Rattle.priority.specs.Priority.{keptByte}
+use Rattle.systick.specs.declared.Timer.{Timer}
+use Rattle.systick.specs.Timer.{SoundTimer}
+use Rattle.mpu.specs.declared.Mpu.{Mpu}
+use Rattle.mpu.specs.Soundness.{SoundMpu}
+use Rattle.rules.specs.declared.Chip.{Chip}
+use Rattle.rules.specs.declared.Place.the-variants.{Exception, Enable, Line}
+use Rattle.rules.specs.declared.Masks.{Masks}
+use Rattle.rules.specs.declared.System.{System}
+use Rattle.rules.specs.Chip.{exists}
+use Rattle.rules.specs.Model.{Model, stack, withPending, withEnabled, withLevel, withPriority, withGroup, withMasks, withTimer, withGuard, withSystem}
+use Rattle.rules.specs.Sound.{Flags, Bytes, SoundSystem, Sound}
+use Rattle.rules.specs.Events.{pend}
+use Rattle.rules.proofs.Parts.{flags-set}
+
+-- t is what m may become with its nest as it was
+pub record Quiet (c : Chip) (m t : Model) : Type 0 where
+  pub sound : Sound c t
+  pub kept : stack t ≡ stack m
+
+pub stay : {c : Chip} {m : Model} → Sound c m → Quiet c m m
+stay h = record { sound = h; kept = refl }
+
+module _ {c : Chip} {m t : Model} (q : Quiet c m t) where
+  pub put-pending : {x : List Bool} → Flags c Exception x → Quiet c m (withPending x t)
+  put-pending f =
+      let h = q .sound in
+      record { sound = record { pending = f; active = h .active; enabled = h .enabled; level = h .level; priority = h .priority; places = h .places; nested = h .nested; group = h .group; basepri = h .basepri; timer = h .timer; guard = h .guard; system = h .system }; kept = q .kept }
+
+  pub put-enabled : {x : List Bool} → Flags c Enable x → Quiet c m (withEnabled x t)
+  put-enabled f =
+      let h = q .sound in
+      record { sound = record { pending = h .pending; active = h .active; enabled = f; level = h .level; priority = h .priority; places = h .places; nested = h .nested; group = h .group; basepri = h .basepri; timer = h .timer; guard = h .guard; system = h .system }; kept = q .kept }
+
+  pub put-level : {x : List Bool} → Flags c Line x → Quiet c m (withLevel x t)
+  put-level f =
+      let h = q .sound in
+      record { sound = record { pending = h .pending; active = h .active; enabled = h .enabled; level = f; priority = h .priority; places = h .places; nested = h .nested; group = h .group; basepri = h .basepri; timer = h .timer; guard = h .guard; system = h .system }; kept = q .kept }
+
+  pub put-priority : {x : List ℕ} → Bytes c x → Quiet c m (withPriority x t)
+  put-priority f =
+      let h = q .sound in
+      record { sound = record { pending = h .pending; active = h .active; enabled = h .enabled; level = h .level; priority = f; places = h .places; nested = h .nested; group = h .group; basepri = h .basepri; timer = h .timer; guard = h .guard; system = h .system }; kept = q .kept }
+
+  pub put-group : {x : ℕ} → x < 8 → Quiet c m (withGroup x t)
+  put-group f =
+      let h = q .sound in
+      record { sound = record { pending = h .pending; active = h .active; enabled = h .enabled; level = h .level; priority = h .priority; places = h .places; nested = h .nested; group = f; basepri = h .basepri; timer = h .timer; guard = h .guard; system = h .system }; kept = q .kept }
+
+  pub put-masks : {x : Masks} → keptByte (c .bits) (x .basepri) ≡ x .basepri → Quiet c m (withMasks x t)
+  put-masks f =
+      let h = q .sound in
+      record { sound = record { pending = h .pending; active = h .active; enabled = h .enabled; level = h .level; priority = h .priority; places = h .places; nested = h .nested; group = h .group; basepri = f; timer = h .timer; guard = h .guard; system = h .system }; kept = q .kept }
+
+  pub put-timer : {x : Timer} → SoundTimer x → Quiet c m (withTimer x t)
+  put-timer f =
+      let h = q .sound in
+      record { sound = record { pending = h .pending; active = h .active; enabled = h .enabled; level = h .level; priority = h .priority; places = h .places; nested = h .nested; group = h .group; basepri = h .basepri; timer = f; guard = h .guard; system = h .system }; kept = q .kept }
+
+  pub put-guard : {x : Mpu} → SoundMpu x → Quiet c m (withGuard x t)
+  put-guard f =
+      let h = q .sound in
+      record { sound = record { pending = h .pending; active = h .active; enabled = h .enabled; level = h .level; priority = h .priority; places = h .places; nested = h .nested; group = h .group; basepri = h .basepri; timer = h .timer; guard = f; system = h .system }; kept = q .kept }
+
+  pub put-system : {x : System} → SoundSystem x → Quiet c m (withSystem x t)
+  put-system f =
+      let h = q .sound in
+      record { sound = record { pending = h .pending; active = h .active; enabled = h .enabled; level = h .level; priority = h .priority; places = h .places; nested = h .nested; group = h .group; basepri = h .basepri; timer = h .timer; guard = h .guard; system = f }; kept = q .kept }
+
+  pub pend-quiet : (n : ℕ) → T (exists c n) → Quiet c m (pend n t)
+  pend-quiet n e = put-pending (flags-set c Exception (t .pending) n true (λ _. e) (q .sound .pending))

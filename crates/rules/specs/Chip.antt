@@ -1,0 +1,49 @@
+-- Document 01, "The chip": which exceptions there are.
+use Prim.Native.Nat.{ℕ, _+_}
+use mathlib.Core.List.{List, [], _∷_}
+use mathlib.Core.Bool.{Bool, true, false, _&&_, _||_}
+use lib.Dec.{ltb, leb, eqb}
+use Rattle.rules.specs.declared.Chip.{Chip}
+use Rattle.rules.specs.declared.Place.{Place}
+use Rattle.rules.specs.declared.Place.the-variants.{Exception, Enable, Line}
+
+-- "Lines 0 to 54", "bits 7:5 are kept"
+abbrev pub chip55 : Chip
+chip55 = record { lines = 55; bits = 3 }
+
+-- "Flags are held for numbers 0 to 70"
+abbrev pub flagCount : Chip → ℕ
+flagCount c = 16 + c .lines
+
+-- "That makes 63"
+abbrev pub exceptionCount : Chip → ℕ
+exceptionCount c = 8 + c .lines
+
+abbrev pub isIn : ℕ → List ℕ → Bool
+isIn n [] = false
+isIn n (x ∷ xs) = eqb n x || isIn n xs
+
+-- "System exceptions: 2 NMI, 3 HardFault, 4 MemManage, 5 BusFault, 6 UsageFault, 11 SVCall, 14 PendSV, 15 SysTick."
+abbrev pub systemExceptions : List ℕ
+systemExceptions = 2 ∷ 3 ∷ 4 ∷ 5 ∷ 6 ∷ 11 ∷ 14 ∷ 15 ∷ []
+
+-- "Lines 0 to 54 are exceptions 16 to 70."
+abbrev pub isLine : Chip → ℕ → Bool
+isLine c n = leb 16 n && ltb n (flagCount c)
+
+abbrev pub exists : Chip → ℕ → Bool
+exists c n = isIn n systemExceptions || isLine c n
+
+-- "Fixed priorities: NMI -2, HardFault -1. The rest have a byte"
+abbrev pub hasByte : Chip → ℕ → Bool
+hasByte c n = leb 4 n && exists c n
+
+-- Those that an enable bit governs: "4, 5, 6 by SYSHNDCTRL bits 16, 17, 18; lines by their enable bit."
+abbrev pub hasEnable : Chip → ℕ → Bool
+hasEnable c n = isIn n (4 ∷ 5 ∷ 6 ∷ []) || isLine c n
+
+-- where a flag of each kind may stand
+abbrev pub stands : Chip → Place → ℕ → Bool
+stands c Exception n = exists c n
+stands c Enable n = hasEnable c n
+stands c Line n = isLine c n

@@ -1,0 +1,13 @@
+pub mod Chip
+pub mod Model
+pub mod Priorities
+pub mod Sound
+pub mod Events
+pub mod Nesting
+pub mod Map
+pub mod Reads
+pub mod Writes
+pub mod Registers
+pub mod Step
+pub mod Demand3
+pub mod Table

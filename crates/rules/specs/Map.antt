@@ -1,0 +1,85 @@
+-- Document 01, "Registers": the register at an address. The table there is the whole map.
+use Prim.Native.Nat.{ℕ, _+_, _-_, _*_, _/_, _%_}
+use mathlib.Core.Bool.{Bool, cond, _&&_}
+use lib.Dec.{ltb, leb, eqb}
+use Rattle.mpu.specs.declared.MpuRegister.{MpuRegister}
+use Rattle.mpu.specs.declared.MpuRegister.the-variants as mpu
+use Rattle.mpu.specs.Registers.{mpuRegisterAt}
+use Rattle.rules.specs.declared.TimerRegister.the-variants.{Stctrl, Streload, Stcurrent}
+use Rattle.rules.specs.declared.Bank.the-variants.{EnableSet, EnableClear, PendingSet, PendingClear, Active}
+use Rattle.rules.specs.declared.SystemRegister.the-variants.{Ictype, Cpuid, Intctrl, Vtable, Apint, Sysctrl, Cfgctrl, Syshndctrl, Faultstat, Hfaultstat, Mmaddr, Faultaddr, Swtrig}
+use Rattle.rules.specs.declared.Register.{Register}
+use Rattle.rules.specs.declared.Register.the-variants.{Missing, Timer, Flags, Priority, System, Guard}
+use Rattle.rules.specs.declared.Chip.{Chip}
+
+-- the words that hold a flag of each line, and a byte of each
+abbrev pub flagWords : Chip → ℕ
+flagWords c = (c .lines + 31) / 32
+
+abbrev pub byteWords : Chip → ℕ
+byteWords c = (c .lines + 3) / 4
+
+-- in the block of so many words from an address on
+abbrev pub inBlock : ℕ → ℕ → ℕ → Bool
+inBlock base words a = leb base a && ltb a (base + 4 * words)
+
+-- the first exception of a word of flags: 32 lines a word
+abbrev pub firstFlag : ℕ → ℕ → ℕ
+firstFlag base a = 16 + 8 * (a - base)
+
+abbrev pub guardRegister : MpuRegister → Register
+guardRegister mpu.Missing = Missing
+guardRegister mpu.Kind = Guard mpu.Kind
+guardRegister mpu.Control = Guard mpu.Control
+guardRegister mpu.Number = Guard mpu.Number
+guardRegister mpu.Base = Guard mpu.Base
+guardRegister mpu.Attributes = Guard mpu.Attributes
+
+-- the blocks, whose length is the chip's: E100 enable set, E180 clear, E200 pending set, E280 clear, E300 active, E400 priority bytes; ED90 MPU
+unfoldable pub blockRegister : Chip → ℕ → Register
+blockRegister c a =
+    cond (inBlock 0xE000E100 (flagWords c) a) (Flags EnableSet (firstFlag 0xE000E100 a))
+    (cond (inBlock 0xE000E180 (flagWords c) a) (Flags EnableClear (firstFlag 0xE000E180 a))
+    (cond (inBlock 0xE000E200 (flagWords c) a) (Flags PendingSet (firstFlag 0xE000E200 a))
+    (cond (inBlock 0xE000E280 (flagWords c) a) (Flags PendingClear (firstFlag 0xE000E280 a))
+    (cond (inBlock 0xE000E300 (flagWords c) a) (Flags Active (firstFlag 0xE000E300 a))
+    (cond (inBlock 0xE000E400 (byteWords c) a) (Priority (16 + (a - 0xE000E400)))
+    (cond (inBlock 0xE000ED90 11 a) (guardRegister (mpuRegisterAt (a - 0xE000ED90)))
+    Missing))))))
+
+-- The register at the aligned address a. ED18, 1C and 20 hold the bytes of the exceptions 4 to 15.
+unfoldable pub registerAt : Chip → ℕ → Register
+registerAt c a =
+    cond (eqb a 0xE000E004) (System Ictype)
+    (cond (eqb a 0xE000E010) (Timer Stctrl)
+    (cond (eqb a 0xE000E014) (Timer Streload)
+    (cond (eqb a 0xE000E018) (Timer Stcurrent)
+    (cond (eqb a 0xE000ED00) (System Cpuid)
+    (cond (eqb a 0xE000ED04) (System Intctrl)
+    (cond (eqb a 0xE000ED08) (System Vtable)
+    (cond (eqb a 0xE000ED0C) (System Apint)
+    (cond (eqb a 0xE000ED10) (System Sysctrl)
+    (cond (eqb a 0xE000ED14) (System Cfgctrl)
+    (cond (eqb a 0xE000ED18) (Priority 4)
+    (cond (eqb a 0xE000ED1C) (Priority 8)
+    (cond (eqb a 0xE000ED20) (Priority 12)
+    (cond (eqb a 0xE000ED24) (System Syshndctrl)
+    (cond (eqb a 0xE000ED28) (System Faultstat)
+    (cond (eqb a 0xE000ED2C) (System Hfaultstat)
+    (cond (eqb a 0xE000ED34) (System Mmaddr)
+    (cond (eqb a 0xE000ED38) (System Faultaddr)
+    (cond (eqb a 0xE000EF00) (System Swtrig)
+    (blockRegister c a)))))))))))))))))))
+
+-- the register of the aligned word that holds this address
+abbrev pub registerOf : Chip → ℕ → Register
+registerOf c a = registerAt c (a - a % 4)
+
+-- "All are words; bytes too at E400 to E437 and ED18 to ED23": 4 where there is no register, 5 where the width is not allowed, else 0
+unfoldable pub widthRefusal : Register → ℕ → ℕ
+widthRefusal Missing w = 4
+widthRefusal (Timer r) w = cond (eqb w 4) 0 5
+widthRefusal (Flags b n) w = cond (eqb w 4) 0 5
+widthRefusal (Priority n) w = cond (eqb w 2) 5 0
+widthRefusal (System r) w = cond (eqb w 4) 0 5
+widthRefusal (Guard r) w = cond (eqb w 4) 0 5

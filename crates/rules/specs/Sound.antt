@@ -1,0 +1,165 @@
+-- Document 01, "The chip": "A state is sound if each field holds only the bits kept here, flags stand only at the 63, and the nested
+-- exceptions are distinct and exactly the active ones." As a test that computes (refusal 16), and as a record of facts.
+use Prim.Native.Nat.{ℕ, zero, suc, _+_, _≤_, _<_}
+use mathlib.Core.Path.{_≡_}
+use mathlib.Core.List.{List, [], _∷_, List·Memᴰ}
+use mathlib.Core.Bool.{Bool, true, false, not, _&&_, _||_}
+use lib.ListN.{length, getD}
+use lib.Dec.{T, ltb, leb, eqb}
+use Rattle.bits.specs.Flags.{on}
+use Rattle.bits.specs.Words.{kept}
+use Rattle.priority.specs.Order.{Distinct}
+use Rattle.priority.specs.Priority.{keptByte}
+use Rattle.systick.specs.Timer.{soundTimer, SoundTimer}
+use Rattle.mpu.specs.Soundness.{soundMpu, SoundMpu}
+use Rattle.rules.specs.declared.Chip.{Chip}
+use Rattle.rules.specs.declared.Place.{Place}
+use Rattle.rules.specs.declared.Place.the-variants.{Exception, Enable, Line}
+use Rattle.rules.specs.declared.System.{System}
+use Rattle.rules.specs.Chip.{flagCount, exceptionCount, isIn, hasByte, stands}
+use Rattle.rules.specs.Model.{Model, down, stack}
+
+-- ---- kept bits of the system block
+
+-- "VTABLE, bits 29:9 kept"
+abbrev pub keptVtable : ℕ → ℕ
+keptVtable x = kept 29 9 x
+
+-- ED10: "bits 4, 2, 1 kept"
+abbrev pub keptSysctrl : ℕ → ℕ
+keptSysctrl x = kept 4 4 x + kept 2 1 x
+
+-- "CFGCTRL, mask 0x31A kept": bits 9:8, 4:3, 1
+abbrev pub keptCfgctrl : ℕ → ℕ
+keptCfgctrl x = kept 9 8 x + kept 4 3 x + kept 1 1 x
+
+-- the bits that a fault event can set: 0, 1, 7, 8, 9, 15, 16 to 19, 24, 25
+abbrev pub keptFaultstat : ℕ → ℕ
+keptFaultstat x = kept 25 24 x + kept 19 15 x + kept 9 7 x + kept 1 0 x
+
+abbrev pub keptHfaultstat : ℕ → ℕ
+keptHfaultstat x = kept 30 30 x
+
+-- ---- the test
+
+abbrev pub implies : Bool → Bool → Bool
+implies a b = not a || b
+
+unfoldable pub every : (ℕ → Bool) → ℕ → Bool
+every p zero = true
+every p (suc k) = p k && every p k
+
+-- flag n stands only where it may
+unfoldable pub flagSound : Chip → Place → List Bool → ℕ → Bool
+flagSound c place flags n = implies (on flags n) (stands c place n)
+
+-- byte n has none but the kept bits, and is 0 where no exception has a byte
+unfoldable pub byteSound : Chip → List ℕ → ℕ → Bool
+byteSound c bytes n =
+    eqb (keptByte (c .bits) (getD bytes n 0)) (getD bytes n 0) && (hasByte c n || eqb (getD bytes n 0) 0)
+
+-- an active exception is nested
+unfoldable pub nestedSound : List Bool → List ℕ → ℕ → Bool
+nestedSound active nested n = implies (on active n) (isIn n nested)
+
+abbrev pub allOn : List Bool → List ℕ → Bool
+allOn l [] = true
+allOn l (x ∷ xs) = on l x && allOn l xs
+
+abbrev pub allDistinct : List ℕ → Bool
+allDistinct [] = true
+allDistinct (x ∷ xs) = not (isIn x xs) && allDistinct xs
+
+-- a place of the nest that is not in use holds 0
+unfoldable pub unusedSound : List ℕ → ℕ → ℕ → Bool
+unusedSound nest depth i = ltb i depth || eqb (getD nest i 0) 0
+
+unfoldable pub soundNest : Chip → List Bool → List ℕ → ℕ → Bool
+soundNest c active nest depth =
+    leb depth (exceptionCount c)
+    && every (unusedSound nest depth) (exceptionCount c)
+    && every (nestedSound active (down nest depth)) (flagCount c)
+    && allOn active (down nest depth)
+    && allDistinct (down nest depth)
+
+unfoldable pub soundFlags : Chip → List Bool → List Bool → List Bool → List Bool → Bool
+soundFlags c pending active enabled level =
+    every (flagSound c Exception pending) (flagCount c)
+    && every (flagSound c Exception active) (flagCount c)
+    && every (flagSound c Enable enabled) (flagCount c)
+    && every (flagSound c Line level) (flagCount c)
+
+unfoldable pub soundSystem : System → Bool
+soundSystem s =
+    eqb (keptVtable (s .vtable)) (s .vtable)
+    && eqb (keptSysctrl (s .sysctrl)) (s .sysctrl)
+    && eqb (keptCfgctrl (s .cfgctrl)) (s .cfgctrl)
+    && eqb (keptFaultstat (s .faultstat)) (s .faultstat)
+    && eqb (keptHfaultstat (s .hfaultstat)) (s .hfaultstat)
+
+-- every list has its length, as the arrays of a state by value always have
+unfoldable pub isSized : Chip → Model → Bool
+isSized c m =
+    eqb (length (m .pending)) (flagCount c)
+    && eqb (length (m .active)) (flagCount c)
+    && eqb (length (m .enabled)) (flagCount c)
+    && eqb (length (m .level)) (flagCount c)
+    && eqb (length (m .priority)) (flagCount c)
+    && eqb (length (m .nest)) (exceptionCount c)
+
+unfoldable pub isSound : Chip → Model → Bool
+isSound c m =
+    isSized c m
+    && soundFlags c (m .pending) (m .active) (m .enabled) (m .level)
+    && every (byteSound c (m .priority)) (flagCount c)
+    && soundNest c (m .active) (m .nest) (m .depth)
+    && ltb (m .group) 8
+    && eqb (keptByte (c .bits) (m .masks .basepri)) (m .masks .basepri)
+    && soundTimer (m .timer)
+    && soundMpu (m .guard)
+    && soundSystem (m .system)
+
+-- ---- the facts, part by part: each names only the fields that it is about
+
+-- flags stand only where they may
+pub record Flags (c : Chip) (place : Place) (l : List Bool) : Type 0 where
+  pub size : length l ≡ flagCount c
+  pub only : (n : ℕ) → T (on l n) → T (stands c place n)
+
+-- priority bytes: the kept bits, and 0 where there is no byte
+pub record Bytes (c : Chip) (l : List ℕ) : Type 0 where
+  pub size : length l ≡ flagCount c
+  pub each : (n : ℕ) → keptByte (c .bits) (getD l n 0) ≡ getD l n 0
+  pub none : (n : ℕ) → (T (hasByte c n) → ⊥) → getD l n 0 ≡ 0
+
+-- the nested exceptions are distinct, and exactly the active ones
+pub record Nested (active : List Bool) (nested : List ℕ) : Type 0 where
+  pub distinct : Distinct nested
+  pub shown : (n : ℕ) → List·Memᴰ n nested → T (on active n)
+  pub stacked : (n : ℕ) → T (on active n) → List·Memᴰ n nested
+
+-- the nest's places: as many as there are exceptions, 0 where not in use
+pub record Places (c : Chip) (nest : List ℕ) (depth : ℕ) : Type 0 where
+  pub size : length nest ≡ exceptionCount c
+  pub unused : (i : ℕ) → depth ≤ i → getD nest i 0 ≡ 0
+
+pub record SoundSystem (s : System) : Type 0 where
+  pub vtable : keptVtable (s .vtable) ≡ s .vtable
+  pub sysctrl : keptSysctrl (s .sysctrl) ≡ s .sysctrl
+  pub cfgctrl : keptCfgctrl (s .cfgctrl) ≡ s .cfgctrl
+  pub faultstat : keptFaultstat (s .faultstat) ≡ s .faultstat
+  pub hfaultstat : keptHfaultstat (s .hfaultstat) ≡ s .hfaultstat
+
+pub record Sound (c : Chip) (m : Model) : Type 0 where
+  pub pending : Flags c Exception (m .pending)
+  pub active : Flags c Exception (m .active)
+  pub enabled : Flags c Enable (m .enabled)
+  pub level : Flags c Line (m .level)
+  pub priority : Bytes c (m .priority)
+  pub places : Places c (m .nest) (m .depth)
+  pub nested : Nested (m .active) (stack m)
+  pub group : m .group < 8
+  pub basepri : keptByte (c .bits) (m .masks .basepri) ≡ m .masks .basepri
+  pub timer : SoundTimer (m .timer)
+  pub guard : SoundMpu (m .guard)
+  pub system : SoundSystem (m .system)

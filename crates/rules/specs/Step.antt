@@ -1,0 +1,66 @@
+-- Document 01, "Access verdicts" as a call; then every event, by one clause a kind. Refusal 16 comes first.
+use Prim.Native.Nat.{ℕ, _%_}
+use mathlib.Core.List.{List, [], _∷_}
+use mathlib.Core.Bool.{Bool, not, cond, _&&_, _||_}
+use lib.Dec.{ltb, eqb}
+use Rattle.mpu.specs.declared.Access.{Access}
+use Rattle.mpu.specs.declared.Access.the-variants as access
+use Rattle.mpu.specs.Verdict.{verdict}
+use Rattle.script.specs.declared.AccessKind.{AccessKind}
+use Rattle.script.specs.declared.Event.{Event}
+use Rattle.script.specs.declared.Event.the-variants as event
+use Rattle.script.specs.Event.{accessNumber}
+use Rattle.rules.specs.declared.Chip.{Chip}
+use Rattle.rules.specs.Model.{Model, Answer, refuse, done}
+use Rattle.rules.specs.Priorities.{isNegative, privileged}
+use Rattle.rules.specs.Sound.{isSound}
+use Rattle.rules.specs.Events.{lineCall, nmiCall, tickCall, faultCall, svcCall, specialCall}
+use Rattle.rules.specs.Nesting.{entryCall, returnCall}
+use Rattle.rules.specs.Registers.{isWidth, readCall, writeCall}
+
+-- "Kinds: 0 read, 1 write, 2 fetch"
+unfoldable pub purposeOf : ℕ → Access
+purposeOf k = cond (eqb k 0) access.Read (cond (eqb k 1) access.Write access.Fetch)
+
+-- "width not 1, 2 or 4; a fetch not 2"
+unfoldable pub fitsAccess : ℕ → ℕ → Bool
+fitsAccess k w = cond (eqb k 2) (eqb w 2) (isWidth w)
+
+-- "The state stays."
+unfoldable pub accessCall : Model → ℕ → ℕ → ℕ → Answer
+accessCall m k w a =
+    cond (ltb 2 k) (refuse 6 m)
+    (cond (not (fitsAccess k w)) (refuse 1 m)
+    (cond (not (eqb (a % w) 0)) (refuse 2 m)
+    (done (verdict (m .guard) (purposeOf k) a (privileged m) (isNegative m)) m)))
+
+-- what an event does to a sound model
+abbrev pub actOf : Chip → Model → Event → Answer
+actOf c m (event.Read w a) = readCall c m w a
+actOf c m (event.Write w a v) = writeCall c m w a v
+actOf c m (event.Line line level) = lineCall c m line level
+actOf c m event.Nmi = nmiCall m
+actOf c m event.Tick = tickCall m
+actOf c m (event.Fault b a) = faultCall m b a
+actOf c m event.Svc = svcCall m
+actOf c m (event.Special which v) = specialCall c m which v
+actOf c m event.Entry = entryCall m
+actOf c m (event.Return v) = returnCall m v
+actOf c m (event.Access kind w a) = accessCall m (accessNumber kind) w a
+
+-- "16: state not sound"; "Checks run in order 16, .."
+unfoldable pub guarded : Chip → Model → Answer → Answer
+guarded c m a = cond (isSound c m) a (refuse 16 m)
+
+abbrev pub stepOf : Chip → Model → Event → Answer
+stepOf c m e = guarded c m (actOf c m e)
+
+-- ---- a list of events, each on the model that the last one left
+
+abbrev pub answersOf : Chip → Model → List Event → List Answer
+answersOf c m [] = []
+answersOf c m (e ∷ es) = stepOf c m e ∷ answersOf c (stepOf c m e .next) es
+
+abbrev pub runOf : Chip → Model → List Event → Model
+runOf c m [] = m
+runOf c m (e ∷ es) = runOf c (stepOf c m e .next) es

@@ -1,0 +1,77 @@
+// What the rules and the code of every chip share: the chip itself, the parts of the state that hold no array, and the names of the
+// registers.
+use mpu::MpuRegister;
+
+// A chip: how many lines it has, and how many bits of a priority byte it keeps.
+pub struct Chip {
+    pub lines: u32,
+    pub bits: u32,
+}
+
+// Where a flag may stand: at any exception, at those with an enable bit of their own, at the lines.
+pub enum Place {
+    Exception,
+    Enable,
+    Line,
+}
+
+// The masks and CONTROL. `npriv` is CONTROL bit 0, `spsel` bit 1.
+pub struct Masks {
+    pub primask: bool,
+    pub faultmask: bool,
+    pub basepri: u8,
+    pub npriv: bool,
+    pub spsel: bool,
+}
+
+// The registers of the system block that are plain storage.
+pub struct System {
+    pub vtable: u32,
+    pub sysctrl: u32,
+    pub cfgctrl: u32,
+    pub faultstat: u32,
+    pub hfaultstat: u32,
+    pub mmaddr: u32,
+    pub faultaddr: u32,
+}
+
+pub enum TimerRegister {
+    Stctrl,
+    Streload,
+    Stcurrent,
+}
+
+// The registers that show a flag of each of 32 lines.
+pub enum Bank {
+    EnableSet,
+    EnableClear,
+    PendingSet,
+    PendingClear,
+    Active,
+}
+
+pub enum SystemRegister {
+    Ictype,
+    Cpuid,
+    Intctrl,
+    Vtable,
+    Apint,
+    Sysctrl,
+    Cfgctrl,
+    Syshndctrl,
+    Faultstat,
+    Hfaultstat,
+    Mmaddr,
+    Faultaddr,
+    Swtrig,
+}
+
+// A register, by the part of the model that it shows. Flags and priority bytes carry the number of the first exception shown.
+pub enum Register {
+    Missing,
+    Timer(TimerRegister),
+    Flags(Bank, usize),
+    Priority(usize),
+    System(SystemRegister),
+    Guard(MpuRegister),
+}

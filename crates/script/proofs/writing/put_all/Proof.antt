@@ -1,0 +1,42 @@
+-- The parts are stored one after the other: together the bytes of all the numbers.
+use mathlib.Core.Path.{_∙_}
+use native.Mathlib.Omega.{arith}
+use Rattle.script.proofs.Bytes.{event-parts, event-length, sets-append}
+use borrow.Author.Needs.{needs}
+use Rattle.script.proofs.writing.put_all.Statement.{statement}
+use Rattle.script.proofs.writing.put_all.Tie as tie
+
+arity-requires : tie.Need-arity-requires
+arity-requires c κs = search needs
+
+put-if-requires : tie.Need-put-if-requires
+put-if-requires c κs = omega (arith, event-length (c .before .before .before .args .n) _ (c .before .arity .ensures))
+
+put-if-requires-2 : tie.Need-put-if-requires-2
+put-if-requires-2 c κs = omega (arith, event-length (c .before .before .before .before .before .before .before .args .n) _ (c .before .before .before .before .before .arity .ensures))
+
+put-if-requires-3 : tie.Need-put-if-requires-3
+put-if-requires-3 c κs = omega (arith, event-length (c .before .before .before .before .before .before .before .before .before .before .before .args .n) _ (c .before .before .before .before .before .before .before .before .before .arity .ensures))
+
+put-if-requires-4 : tie.Need-put-if-requires-4
+put-if-requires-4 c κs = omega (arith, event-length (c .before .before .before .before .before .before .before .before .before .before .before .before .before .before .before .args .n) _ (c .before .before .before .before .before .before .before .before .before .before .before .before .before .arity .ensures))
+
+same-length : tie.Need-same-length
+same-length c = search needs
+
+returns : tie.Need-returns
+returns c =
+    c .before .before .put-if4 .ensures .1
+    ∙ simp (c .before .before .before .before .before .before .put-if3 .ensures .1, c .before .before .before .before .before .before .put-if3 .ensures .0, c .before .before .before .before .before .before .before .before .before .before .put-if2 .ensures .1, c .before .before .before .before .before .before .before .before .before .before .put-if2 .ensures .0, c .before .before .before .before .before .before .before .before .before .before .before .before .before .before .put-if .ensures .1, c .before .before .before .before .before .before .before .before .before .before .before .before .before .before .put-if .ensures .0, event-parts (c .before .before .before .before .before .before .before .before .before .before .before .before .before .before .before .before .before .before .args .n) _ (c .before .before .before .before .before .before .before .before .before .before .before .before .before .before .before .before .arity .ensures), sets-append)
+
+pub put-all-spec : {M : Type 1} → statement M
+put-all-spec =
+    tie.close
+    (tie.spec
+    arity-requires
+    put-if-requires
+    put-if-requires-2
+    put-if-requires-3
+    put-if-requires-4
+    same-length
+    returns)

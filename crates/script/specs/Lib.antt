@@ -1,0 +1,10 @@
+pub mod Event
+pub mod EventLaws
+pub mod Examples
+pub mod Number
+pub mod NumberLaws
+pub mod Reading
+pub mod Script
+pub mod ScriptLaws
+pub mod Steps
+pub mod Writing

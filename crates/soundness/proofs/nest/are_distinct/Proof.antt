@@ -1,0 +1,41 @@
+-- After i of the oldest the answer is that of these i.
+use Prim.Native.Nat.{_≤_, _-_}
+use mathlib.Core.Path.{_≡_, refl, _∙_}
+use native.Mathlib.Nat.{le-antisymm}
+use native.Mathlib.Numerals.{add-one}
+use Rattle.rules.specs.Sound.{allDistinct}
+use Rattle.rules.specs.Model.{down}
+use native.Mathlib.Omega.{arith}
+use Rattle.soundness.proofs.nest.are_distinct.Statement.{statement}
+use Rattle.soundness.proofs.nest.are_distinct.Tie as tie
+
+abbrev Inv-loop : tie.InvT-loop
+Inv-loop nest depth ok₀ i₀ ok i = (i ≤ depth) × (ok ≡ allDistinct (down nest i))
+
+abbrev μ-loop : tie.MeasureT-loop
+μ-loop nest depth ok₀ i₀ ok i = depth - i
+
+loop-holds : tie.Need-loop-holds Inv-loop μ-loop
+loop-holds c = (omega arith, refl)
+
+and-new-requires : tie.Need-and-new-requires Inv-loop μ-loop
+and-new-requires c κs = omega arith
+
+add-i : tie.Need-add-i Inv-loop μ-loop
+add-i c = omega arith
+
+loop-less : tie.Need-loop-less Inv-loop μ-loop
+loop-less c = omega arith
+
+loop-again : tie.Need-loop-again Inv-loop μ-loop
+loop-again c = (omega arith, c .and-new .ensures ∙ simp (add-one, c .before .before .loop .inv .1))
+
+returns : tie.Need-returns Inv-loop μ-loop
+returns c =
+    let e : c .before .loop .i ≡ c .before .before .before .args .depth = le-antisymm (c .before .loop .inv .0) (c .loop-test .left) in
+    rw e at (c .before .loop .inv .1)
+
+pub are-distinct-spec : {M : Type 1} → statement M
+are-distinct-spec =
+    tie.close
+    (tie.spec Inv-loop μ-loop loop-holds and-new-requires add-i loop-less loop-again returns)

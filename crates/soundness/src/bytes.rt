@@ -1,0 +1,51 @@
+// Priority bytes hold only the kept bits, and 0 where no exception has a byte.
+use crate::numbers::has_byte;
+use bits::wide;
+use priority::kept_byte;
+use rules::Chip;
+ghost use mathlib.Core.Path.{_≡_};
+ghost use mathlib.Core.Bool.{_&&_, _||_};
+ghost use Prim.Native.Nat.{_≤_};
+ghost use lib.Dec.{eqb};
+ghost use lib.ListN.{length};
+ghost use Rattle.priority.specs.Priority.{keptByte};
+ghost use Rattle.rules.specs.Chip.{flagCount, hasByte};
+ghost use Rattle.rules.specs.Sound.{every, byteSound};
+
+// Byte n. A byte that is 0 costs one test. Here and below, a chip keeps 3 to 8 bits of a byte.
+fn byte_sound(chip: Chip, byte: u8, n: usize) -> bool
+    requires { ⌜ chip .bits ≤ 8 ⌝ }
+    ensures { λ r. ⌜ r ≡ (eqb (keptByte (chip .bits) byte) byte && (hasByte chip n || eqb byte 0)) ⌝ }
+{
+    if byte == 0 {
+        return true;
+    }
+    if kept_byte(wide(byte), chip.bits) == byte {
+        return has_byte(chip, n);
+    }
+    false
+}
+
+fn and_byte(ok: bool, chip: Chip, byte: u8, n: usize) -> bool
+    requires { ⌜ chip .bits ≤ 8 ⌝ }
+    ensures { λ r. ⌜ r ≡ (eqb (keptByte (chip .bits) byte) byte && (hasByte chip n || eqb byte 0) && ok) ⌝ }
+{
+    if byte_sound(chip, byte, n) {
+        return ok;
+    }
+    false
+}
+
+// The array of a state has the chip's length.
+pub fn bytes_sound(chip: Chip, priority: &[u8]) -> bool
+    requires { ⌜ (length (now priority) ≡ flagCount chip) × (chip .bits ≤ 8) ⌝ }
+    ensures { λ r. ⌜ r ≡ every (byteSound chip (now (priority .entry))) (flagCount chip) ⌝ }
+{
+    let mut ok = true;
+    let mut n = 0;
+    while n < priority.len() {
+        ok = and_byte(ok, chip, priority[n], n);
+        n += 1;
+    }
+    ok
+}

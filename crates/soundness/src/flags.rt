@@ -1,0 +1,57 @@
+// Flags stand only where they may.
+use crate::numbers::stands;
+use rules::Chip;
+use rules::Place;
+ghost use mathlib.Core.Path.{_≡_};
+ghost use mathlib.Core.Bool.{_&&_};
+ghost use lib.ListN.{length};
+ghost use Rattle.rules.specs.Chip.{flagCount, stands};
+ghost use Rattle.rules.specs.Sound.{implies, every, flagSound, soundFlags};
+
+// One step of the test. A flag that is not set costs one test.
+fn and_flag(ok: bool, flag: bool, chip: Chip, place: Place, n: usize) -> bool
+    ensures { λ r. ⌜ r ≡ (implies flag (stands chip place n) && ok) ⌝ }
+{
+    if flag {
+        if stands(chip, place, n) {
+            return ok;
+        }
+        return false;
+    }
+    ok
+}
+
+pub fn flags_sound(chip: Chip, place: Place, flags: &[bool]) -> bool
+    ensures { λ r. ⌜ r ≡ every (flagSound chip place (now (flags .entry))) (length (now (flags .entry))) ⌝ }
+{
+    let mut ok = true;
+    let mut n = 0;
+    while n < flags.len() {
+        ok = and_flag(ok, flags[n], chip, place, n);
+        n += 1;
+    }
+    ok
+}
+
+// The arrays of a state have the chip's lengths.
+pub fn sound_flags(
+    chip: Chip,
+    pending: &[bool],
+    active: &[bool],
+    enabled: &[bool],
+    level: &[bool],
+) -> bool
+    requires { ⌜ (length (now pending) ≡ flagCount chip) × (length (now active) ≡ flagCount chip) × (length (now enabled) ≡ flagCount chip) × (length (now level) ≡ flagCount chip) ⌝ }
+    ensures { λ r. ⌜ r ≡ soundFlags chip (now (pending .entry)) (now (active .entry)) (now (enabled .entry)) (now (level .entry)) ⌝ }
+{
+    if !flags_sound(chip, Place::Exception, pending) {
+        return false;
+    }
+    if !flags_sound(chip, Place::Exception, active) {
+        return false;
+    }
+    if !flags_sound(chip, Place::Enable, enabled) {
+        return false;
+    }
+    flags_sound(chip, Place::Line, level)
+}
