@@ -15,19 +15,19 @@ impl State {
         ensures { λ r. ⌜ r ≡ verdict (self .guard) (purposeOf kind) address (privileged (model self)) (isNegative (model self)) ⌝ }
     {
         let guard = self.guard;
-        let purpose = nvic::access::purpose_of(kind);
+        let purpose = map::access::purpose_of(kind);
         guard.verdict(purpose, address, self.privileged(), self.negative())
     }
 
-    pub fn act_access(self, kind: u32, width: u32, address: u32) -> Reply
+    pub(crate) fn act_access(self, kind: u32, width: u32, address: u32) -> Reply
         requires { ⌜ Sound chip55 (model self) ⌝ }
         ensures { λ r. ⌜ r ≡ reply (accessCall (model self) kind width address) ⌝ }
     {
         if 2 < kind {
             return self.refuse(6);
         }
-        if nvic::access::fits_access(kind, width) {
-            if nvic::access::is_aligned(address, width) {
+        if map::access::fits_access(kind, width) {
+            if map::access::is_aligned(address, width) {
                 return self.done(self.verdict(kind, address));
             }
             return self.refuse(2);

@@ -46,7 +46,7 @@ impl State {
         )
     }
 
-    pub fn negative(self) -> bool
+    pub(crate) fn negative(self) -> bool
         requires { ⌜ Sound chip55 (model self) ⌝ }
         ensures { λ r. ⌜ r ≡ isNegative (model self) ⌝ }
     {
@@ -70,7 +70,7 @@ impl State {
         self
     }
 
-    pub fn act_line(self, line: u32, level: u32) -> Reply
+    pub(crate) fn act_line(self, line: u32, level: u32) -> Reply
         ensures { λ r. ⌜ r ≡ reply (lineCall chip55 (model self) line level) ⌝ }
     {
         if 55 <= line {
@@ -82,13 +82,13 @@ impl State {
         self.levelled(16 + line as usize, level == 1).done(0)
     }
 
-    pub fn act_nmi(self) -> Reply
+    pub(crate) fn act_nmi(self) -> Reply
         ensures { λ r. ⌜ r ≡ reply (nmiCall (model self)) ⌝ }
     {
         self.pend(2).done(0)
     }
 
-    pub fn act_tick(mut self) -> Reply
+    pub(crate) fn act_tick(mut self) -> Reply
         ensures { λ r. ⌜ r ≡ reply (tickCall (model self)) ⌝ }
     {
         let timer = self.timer;
@@ -102,7 +102,7 @@ impl State {
         self.done(value)
     }
 
-    pub fn act_special(mut self, which: u32, value: u32) -> Reply
+    pub(crate) fn act_special(mut self, which: u32, value: u32) -> Reply
         requires { ⌜ Sound chip55 (model self) ⌝ }
         ensures { λ r. ⌜ r ≡ reply (specialCall chip55 (model self) which value) ⌝ }
     {
@@ -111,7 +111,7 @@ impl State {
         }
         if self.privileged() {
             let masks = self.masks;
-            let next = nvic::masks::special_written(
+            let next = system::masks::special_written(
                 super::CHIP,
                 masks,
                 which,

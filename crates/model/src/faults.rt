@@ -32,7 +32,7 @@ impl State {
         ensures { λ r. ⌜ r ≡ reply (raised (model self) n status) ⌝ }
     {
         if self.escalates(n) {
-            self.system = nvic::faults::forced(status);
+            self.system = system::faults::forced(status);
             return self.pend(3).done(3);
         }
         self.system = status;
@@ -47,21 +47,21 @@ impl State {
             return self.refuse(10);
         }
         let system = self.system;
-        self.raised(n, nvic::faults::fault_status(system, bit, address))
+        self.raised(n, system::faults::fault_status(system, bit, address))
     }
 
-    pub fn act_fault(self, bit: u32, address: u32) -> Reply
+    pub(crate) fn act_fault(self, bit: u32, address: u32) -> Reply
         requires { ⌜ Sound chip55 (model self) ⌝ }
         ensures { λ r. ⌜ r ≡ reply (faultCall (model self) bit address) ⌝ }
     {
-        let found = nvic::faults::fault_exception(bit);
+        let found = system::faults::fault_exception(bit);
         match found {
             Found::At(n) => self.fault_at(n, bit, address),
             Found::Nothing => self.refuse(7),
         }
     }
 
-    pub fn act_svc(self) -> Reply
+    pub(crate) fn act_svc(self) -> Reply
         requires { ⌜ Sound chip55 (model self) ⌝ }
         ensures { λ r. ⌜ r ≡ reply (svcCall (model self)) ⌝ }
     {

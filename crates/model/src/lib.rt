@@ -83,7 +83,7 @@ impl State {
         }
     }
 
-    pub fn refuse(self, number: u32) -> Reply
+    pub(crate) fn refuse(self, number: u32) -> Reply
         ensures { λ r. ⌜ r ≡ reply (refuse number (model self)) ⌝ }
     {
         Reply {
@@ -95,7 +95,7 @@ impl State {
         }
     }
 
-    pub fn done(self, value: u32) -> Reply
+    pub(crate) fn done(self, value: u32) -> Reply
         ensures { λ r. ⌜ r ≡ reply (done value (model self)) ⌝ }
     {
         Reply {
@@ -122,7 +122,7 @@ impl State {
         self.depth
     }
 
-    pub fn privileged(self) -> bool
+    pub(crate) fn privileged(self) -> bool
         ensures { λ r. ⌜ r ≡ privileged (model self) ⌝ }
     {
         let masks = self.masks;
@@ -133,7 +133,7 @@ impl State {
     }
 
     // The callers give the number of an exception that exists.
-    pub fn pend(mut self, n: usize) -> Self
+    pub(crate) fn pend(mut self, n: usize) -> Self
         requires { ⌜ n < 71 ⌝ }
         ensures { λ r. ⌜ r ≡ state (pend n (model self)) ⌝ }
     {

@@ -47,7 +47,7 @@ impl State {
         self.nest[depth] = n as u8;
         self.depth = depth + 1;
         let masks = self.masks;
-        let next = nvic::masks::with_spsel(masks, false);
+        let next = system::masks::with_spsel(masks, false);
         self.masks = next;
         self
     }
@@ -69,7 +69,7 @@ impl State {
         }
     }
 
-    pub fn act_entry(self) -> Reply
+    pub(crate) fn act_entry(self) -> Reply
         requires { ⌜ Sound chip55 (model self) ⌝ }
         ensures { λ r. ⌜ r ≡ reply (entryCall (model self)) ⌝ }
     {
@@ -100,12 +100,12 @@ impl State {
         next.nest[depth] = 0;
         next.depth = depth;
         let masks = next.masks;
-        let left = nvic::masks::returned_masks(masks, value);
+        let left = system::masks::returned_masks(masks, value);
         next.masks = left;
         next
     }
 
-    pub fn act_return(self, value: u32) -> Reply
+    pub(crate) fn act_return(self, value: u32) -> Reply
         requires { ⌜ Sound chip55 (model self) ⌝ }
         ensures { λ r. ⌜ r ≡ reply (returnCall (model self) value) ⌝ }
     {

@@ -34,7 +34,7 @@ impl State {
         ensures { λ r. ⌜ r ≡ intctrlValue (self .pending) (self .depth) (top (stack (model self))) ⌝ }
     {
         let pending = self.pending;
-        nvic::control::intctrl_value(&pending, self.depth, self.top())
+        control::intctrl_value(&pending, self.depth, self.top())
     }
 
     fn syshndctrl_value(self) -> u32
@@ -43,7 +43,7 @@ impl State {
         let pending = self.pending;
         let active = self.active;
         let enabled = self.enabled;
-        nvic::control::syshndctrl_value(&pending, &active, &enabled)
+        control::syshndctrl_value(&pending, &active, &enabled)
     }
 
     fn system_value(self, register: SystemRegister) -> u32
@@ -77,7 +77,7 @@ impl State {
         let guard = self.guard;
         match register {
             Register::Missing => 0,
-            Register::Timer(r) => nvic::timer::timer_value(timer, r),
+            Register::Timer(r) => system::timer::timer_value(timer, r),
             Register::Flags(bank, n) => self.bank_value(bank, n),
             Register::Priority(n) => nvic::bytes::bytes_value(&bytes, n),
             Register::System(r) => self.system_value(r),
@@ -89,7 +89,7 @@ impl State {
         ensures { λ r. ⌜ r ≡ state (afterRead (Timer register) (model self)) ⌝ }
     {
         let timer = self.timer;
-        self.timer = nvic::timer::timer_read(timer, register);
+        self.timer = system::timer::timer_read(timer, register);
         self
     }
 
@@ -106,14 +106,14 @@ impl State {
         }
     }
 
-    pub fn act_read(self, width: u32, address: u32) -> Reply
+    pub(crate) fn act_read(self, width: u32, address: u32) -> Reply
         requires { ⌜ Sound chip55 (model self) ⌝ }
         ensures { λ r. ⌜ r ≡ reply (readCall chip55 (model self) width address) ⌝ }
     {
-        let register = nvic::map::register_at(super::CHIP, address - address % 4);
-        let refusal = nvic::access::access_refusal(register, self.privileged(), width, address);
+        let register = map::register_at(super::CHIP, address - address % 4);
+        let refusal = map::access::access_refusal(register, self.privileged(), width, address);
         if refusal == 0 {
-            let value = nvic::access::lane_of(width, address, self.value_of(register));
+            let value = map::access::lane_of(width, address, self.value_of(register));
             return self.after_read(register).done(value);
         }
         self.refuse(refusal)

@@ -56,7 +56,7 @@ impl State {
             lists,
             both(
                 words,
-                both(guard.is_sound(), nvic::system::sound_system(system)),
+                both(guard.is_sound(), system::stored::sound_system(system)),
             ),
         )
     }

@@ -73,7 +73,7 @@ impl State {
         ensures { λ r. ⌜ r ≡ state (systemWritten chip55 Intctrl v (model self)) ⌝ }
     {
         let mut flags = self.pending;
-        nvic::control::intctrl_written(&mut flags, v);
+        control::intctrl_written(&mut flags, v);
         self.pending = flags;
         self
     }
@@ -82,7 +82,7 @@ impl State {
         ensures { λ r. ⌜ r ≡ state (systemWritten chip55 Syshndctrl v (model self)) ⌝ }
     {
         let mut flags = self.enabled;
-        nvic::control::syshndctrl_written(&mut flags, v);
+        control::syshndctrl_written(&mut flags, v);
         self.enabled = flags;
         self
     }
@@ -91,7 +91,7 @@ impl State {
         ensures { λ r. ⌜ r ≡ state (systemWritten chip55 Swtrig v (model self)) ⌝ }
     {
         let mut flags = self.pending;
-        nvic::control::swtrig_written(&mut flags, super::CHIP, v);
+        control::swtrig_written(&mut flags, super::CHIP, v);
         self.pending = flags;
         self
     }
@@ -99,7 +99,7 @@ impl State {
     fn apint_written(mut self, v: u32) -> Self
         ensures { λ r. ⌜ r ≡ state (systemWritten chip55 Apint v (model self)) ⌝ }
     {
-        self.group = nvic::control::apint_written(v, self.group);
+        self.group = control::apint_written(v, self.group);
         self
     }
 
@@ -107,7 +107,7 @@ impl State {
         ensures { λ r. ⌜ r ≡ state (withSystem (storedWritten register v (self .system)) (model self)) ⌝ }
     {
         let system = self.system;
-        self.system = nvic::system::stored_written(system, register, v);
+        self.system = system::stored::stored_written(system, register, v);
         self
     }
 
@@ -157,7 +157,7 @@ impl State {
         ensures { λ r. ⌜ r ≡ state (wordWritten chip55 (Timer register) v (model self)) ⌝ }
     {
         let timer = self.timer;
-        self.timer = nvic::timer::timer_written(timer, register, v);
+        self.timer = system::timer::timer_written(timer, register, v);
         self
     }
 
@@ -229,12 +229,12 @@ impl State {
         self.free_write(width, address)
     }
 
-    pub fn act_write(self, width: u32, address: u32, value: u32) -> Reply
+    pub(crate) fn act_write(self, width: u32, address: u32, value: u32) -> Reply
         ensures { λ r. ⌜ r ≡ reply (writeCall chip55 (model self) width address value) ⌝ }
     {
-        let register = nvic::map::register_at(super::CHIP, address - address % 4);
+        let register = map::register_at(super::CHIP, address - address % 4);
         let allowed = self.may_write(width, address);
-        let refusal = nvic::access::access_refusal(register, allowed, width, address);
+        let refusal = map::access::access_refusal(register, allowed, width, address);
         if refusal == 0 {
             return self.written(register, width, address, value).done(0);
         }

@@ -1,16 +1,13 @@
--- Facts that the proofs share.
-use Prim.Native.Nat.{ℕ, zero, suc, _+_, _-_, _*_, _≤_, _<_}
-use mathlib.Core.Path.{_≡_, refl, sym, ap, _∙_}
+-- Past the end a byte is lost; the top of a nest.
+use Prim.Native.Nat.{ℕ, zero, suc, _-_, _≤_}
+use mathlib.Core.Path.{_≡_, refl}
 use mathlib.Core.List.{List}
-use mathlib.Core.Bool.{Bool, true, false, cond, _&&_}
+use mathlib.Core.Bool.{Bool, true, false, cond}
 use native.Mathlib.Omega.{arith}
 use lib.ListN.{length, getD}
 use lib.Seq.{set-out}
-use lib.Dec.{leb, ltb}
-use borrow.Author.Tests.{leb-true}
 use Rattle.rules.specs.declared.Chip.{Chip}
 use Rattle.rules.specs.Chip.{hasByte}
-use Rattle.rules.specs.Map.{inBlock}
 use Rattle.rules.specs.Model.{down, top}
 use Rattle.rules.specs.Writes.{withByte}
 
@@ -27,11 +24,3 @@ with-byte-past c n b l h = cond-same (hasByte c n) _ l (set-out l n _ h)
 pub top-down : (l : List ℕ) (d : ℕ) → (d ≡ 0 → ⊥) → top (down l d) ≡ getD l (d - 1) 0
 top-down l zero h = absurd (h refl)
 top-down l (suc d) h = let e : suc d - 1 ≡ d = omega arith in rw e
-
--- an address in a block is not before it
-pub in-block-from : (base words a : ℕ) → inBlock base words a ≡ true → base ≤ a
-in-block-from base words a h = cases (leb base a) refl h
-  where
-    cases : (b : Bool) → leb base a ≡ b → (b && ltb a (base + 4 * words)) ≡ true → base ≤ a
-    cases true e k = leb-true base a e
-    cases false e k = let z : _≡_ {A = ℕ} 0 1 = cc in omega arith

@@ -5,14 +5,14 @@ use mathlib.Core.Logic.{_⊎_, inl, inr}
 use mathlib.Core.List.{_∷_, List·Memᴰ, List·Memᴰ·head, List·Memᴰ·cases-cons}
 use mathlib.Core.Bool.{true, false, _&&_, _||_}
 use native.Mathlib.Omega.{arith}
-use lib.ListN.{length, getD, set}
+use lib.ListN.{getD, set}
 use lib.Dec.{T, ltb, eqb, ltb→lt, eqb→eq}
 use lib.Signed.{_≤ℤ_, _<ℤ_, <ℤ-≤ℤ-trans, clashℤ}
 use Rattle.bits.specs.Flags.{on}
 use Rattle.priority.specs.declared.Found.the-variants.{At}
-use Rattle.priority.specs.Priority.{keptByte, eligible, fullPriority, executionNested}
+use Rattle.priority.specs.Priority.{keptByte, executionNested}
 use Rattle.priority.specs.Order.{both, either, by-cases, Rising}
-use Rattle.priority.specs.Laws.{Outcome, IsBest, Eligible, eligible-parts, pending-outcome, execution-active, nested-execution}
+use Rattle.priority.specs.Laws.{Eligible, pending-best, execution-active, nested-execution}
 use Rattle.rules.specs.declared.Chip.{Chip}
 use Rattle.rules.specs.declared.Place.the-variants.{Exception}
 use Rattle.rules.specs.declared.Masks.{Masks}
@@ -98,9 +98,7 @@ module _ {c : Chip} {m : Model} (h : Sound c m) where
   -- ---- the one chosen
 
   pub chosen-able : (n : ℕ) → chosen m ≡ At n → Eligible (m .group) (m .priority) (m .pending) (m .enabled) (execution m) n
-  chosen-able n e =
-      let o : IsBest (eligible (m .group) (m .priority) (m .pending) (m .enabled) (execution m)) (fullPriority (m .priority)) (length (m .pending)) n = subst (Outcome (eligible (m .group) (m .priority) (m .pending) (m .enabled) (execution m)) (fullPriority (m .priority)) (length (m .pending))) e (pending-outcome (m .group) (m .priority) (m .pending) (m .enabled) (execution m)) in
-      eligible-parts (m .group) (m .priority) (m .pending) (m .enabled) (execution m) n (o .passes)
+  chosen-able n e = pending-best (m .group) (m .priority) (m .pending) (m .enabled) (execution m) n e .able
 
   -- what the code needs to store it
   pub chosen-below : (n : ℕ) → chosen m ≡ At n → (n < flagCount c) × (m .depth < exceptionCount c)

@@ -1,12 +1,11 @@
 -- The user's third demand, as one claim about a list of calls, and what an entry does in every sound state. Its proof is `proofs/Demand3.antt`.
 use Prim.Native.Nat.{ℕ, _+_, _≤_, _<_}
 use mathlib.Core.Path.{_≡_}
-use mathlib.Core.Logic.{_≢_, _⊎_, _↔_}
+use mathlib.Core.Logic.{_≢_, _↔_}
 use mathlib.Core.List.{List, [], _∷_, List·Memᴰ}
-use mathlib.Core.Bool.{Bool, cond}
+use mathlib.Core.Bool.{cond}
 use lib.ListN.{length}
 use lib.Dec.{T, eqb}
-use lib.IntN.{ℤ}
 use lib.Signed.{_<ℤ_}
 use Rattle.bits.specs.Flags.{on}
 use Rattle.priority.specs.Order.{Distinct, Rising}
@@ -16,7 +15,7 @@ use Rattle.priority.specs.declared.Found.the-variants.{At}
 use Rattle.script.specs.declared.Event.{Event}
 use Rattle.script.specs.declared.Event.the-variants as event
 use Rattle.rules.specs.declared.Chip.{Chip}
-use Rattle.rules.specs.Chip.{chip55, exceptionCount}
+use Rattle.rules.specs.Chip.{exceptionCount}
 use Rattle.rules.specs.Model.{Model, Answer, refuse, fresh, stack}
 use Rattle.rules.specs.Priorities.{full, groupNumber, enabledAt, execution}
 use Rattle.rules.specs.Sound.{Sound}

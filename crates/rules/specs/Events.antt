@@ -1,10 +1,9 @@
 -- Document 01, "Lines", "Faults and SVC", "SysTick", "Special registers": what these events answer and leave.
 use Prim.Native.Nat.{ℕ, _+_}
-use mathlib.Core.List.{List, [], _∷_}
-use mathlib.Core.Bool.{Bool, true, false, not, cond, _&&_, _||_}
+use mathlib.Core.List.{[], _∷_}
+use mathlib.Core.Bool.{Bool, true, not, cond, _&&_, _||_}
 use lib.ListN.{set}
 use lib.Dec.{ltb, leb, eqb}
-use lib.IntN.{pos}
 use lib.Signed.{ltZ}
 use Rattle.bits.specs.Flags.{on}
 use Rattle.bits.specs.Words.{bit, bitAt, withBit}

@@ -1,7 +1,7 @@
 -- The state that the rules speak of, over every chip: lists where a chip's state by value has arrays, and the parts that all chips share.
-use Prim.Native.Nat.{ℕ, zero, suc, _+_}
+use Prim.Native.Nat.{ℕ, zero, suc}
 use mathlib.Core.List.{List, [], _∷_}
-use mathlib.Core.Bool.{Bool, true, false}
+use mathlib.Core.Bool.{Bool, false}
 use lib.ListN.{getD, replicate}
 use Rattle.systick.specs.declared.Timer.{Timer}
 use Rattle.systick.specs.Timer.{freshTimer}

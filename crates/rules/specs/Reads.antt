@@ -1,7 +1,7 @@
 -- Document 01, "Registers": what each register reads.
 use Prim.Native.Nat.{ℕ, _+_, _-_, _*_, _/_, _^_}
 use mathlib.Core.List.{List}
-use mathlib.Core.Bool.{Bool, true, false}
+use mathlib.Core.Bool.{Bool}
 use lib.ListN.{getD}
 use lib.Dec.{ltb}
 use Rattle.bits.specs.Flags.{on, flagsWord, anyFlag}

@@ -1,12 +1,11 @@
 -- Document 01, "Access verdicts" as a call; then every event, by one clause a kind. Refusal 16 comes first.
 use Prim.Native.Nat.{ℕ, _%_}
 use mathlib.Core.List.{List, [], _∷_}
-use mathlib.Core.Bool.{Bool, not, cond, _&&_, _||_}
+use mathlib.Core.Bool.{Bool, not, cond}
 use lib.Dec.{ltb, eqb}
 use Rattle.mpu.specs.declared.Access.{Access}
 use Rattle.mpu.specs.declared.Access.the-variants as access
 use Rattle.mpu.specs.Verdict.{verdict}
-use Rattle.script.specs.declared.AccessKind.{AccessKind}
 use Rattle.script.specs.declared.Event.{Event}
 use Rattle.script.specs.declared.Event.the-variants as event
 use Rattle.script.specs.Event.{accessNumber}

@@ -4,7 +4,7 @@ use mathlib.Core.List.{List}
 use mathlib.Core.Bool.{Bool, true, false, cond}
 use lib.ListN.{set}
 use lib.Dec.{ltb, eqb}
-use Rattle.bits.specs.Flags.{on, flagsWord, setFlags, clearFlags}
+use Rattle.bits.specs.Flags.{flagsWord, setFlags, clearFlags}
 use Rattle.bits.specs.Words.{field, bitAt, without, byteAt}
 use Rattle.priority.specs.Priority.{keptByte}
 use Rattle.systick.specs.declared.Timer.{Timer}
@@ -23,7 +23,6 @@ use Rattle.rules.specs.declared.Chip.{Chip}
 use Rattle.rules.specs.Chip.{hasByte}
 use Rattle.rules.specs.Model.{Model, withPending, withEnabled, withPriority, withGroup, withTimer, withGuard, withSystem}
 use Rattle.rules.specs.Sound.{keptVtable, keptSysctrl, keptCfgctrl}
-use Rattle.rules.specs.Events.{pend}
 
 unfoldable pub timerWritten : TimerRegister → ℕ → Timer → Timer
 timerWritten Stctrl v t = writeControl v t

@@ -33,7 +33,11 @@ groupsAt bytes at (suc left) =
     (joined (getD bytes at 0 - 128) (groupsAt bytes (at + 1) left)))
     Bad
 
--- the number from `at` on and the offset after it; `Bad` is refusal 13: "cut short (also one read at or past the end), too large
--- or not shortest"
+-- the number from `at` on and the offset after it
 unfoldable pub numberAt : List ℕ → ℕ → Number
 numberAt bytes at = groupsAt bytes at 5
+
+-- "13: script number cut short (also one read at or past the end), too large or not shortest"; 0 where it is a number
+abbrev pub numberRefusal : Number → ℕ
+numberRefusal (Value n next) = 0
+numberRefusal Bad = 13

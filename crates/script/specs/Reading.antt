@@ -10,7 +10,7 @@ use Rattle.script.specs.declared.ReadEvent.the-variants.{Found, Refused}
 use Rattle.script.specs.declared.number.Number.{Number}
 use Rattle.script.specs.declared.number.Number.the-variants.{Value, Bad}
 use Rattle.script.specs.Event.{accessKind, arity}
-use Rattle.script.specs.Number.{numberAt}
+use Rattle.script.specs.Number.{numberAt, numberRefusal}
 
 -- some numbers in a row and the offset after them, or one of them is refused by 13
 pub data Numbers : Type 0 where
@@ -47,11 +47,11 @@ eventOf kind a b c next =
 
 unfoldable pub withArguments : ℕ → Numbers → ReadEvent
 withArguments kind (numbers ns next) = eventOf kind (getD ns 0 0) (getD ns 1 0) (getD ns 2 0) next
-withArguments kind broken = Refused 13
+withArguments kind broken = Refused (numberRefusal Bad)
 
 unfoldable pub withKind : List ℕ → Number → ReadEvent
 withKind bytes (Value kind next) = withArguments kind (numbersAt bytes next (arity kind))
-withKind bytes Bad = Refused 13
+withKind bytes Bad = Refused (numberRefusal Bad)
 
 -- "in a script 15 first, then kind before arguments"
 unfoldable pub readEvent : List ℕ → ℕ → ReadEvent

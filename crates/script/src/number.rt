@@ -51,16 +51,16 @@ pub fn read_number(bytes: &[u8], at: usize) -> Number
     ensures { λ r. ⌜ r ≡ numberAt (now (bytes .entry)) at ⌝ }
 {
     if at < bytes.len() {
-        let b = bytes[at] as u32;
-        if b < 128 {
-            return Number::Value(b, at + 1);
+        let first = bytes[at] as u32;
+        if first < 128 {
+            return Number::Value(first, at + 1);
         }
     }
     read_groups(bytes, at, 5)
 }
 
 // How many groups a number has. Called with `left` from 5 down.
-pub fn size(n: u32, left: u32) -> usize
+pub(crate) fn size(n: u32, left: u32) -> usize
     requires { ⌜ left ≤ 5 ⌝ }
     ensures { λ r. ⌜ r ≡ length (groups left n) ⌝ }
 {
@@ -73,8 +73,8 @@ pub fn size(n: u32, left: u32) -> usize
     1 + size(n / 128, left - 1)
 }
 
-// Called where the groups fit.
-pub fn write_groups(out: &mut [u8], at: usize, n: u32, left: u32)
+// Writes the groups of a number. Called with `left` from 5 down, where they fit.
+pub(crate) fn write_groups(out: &mut [u8], at: usize, n: u32, left: u32)
     requires { ⌜ at + length (groups left n) ≤ length (now out) ⌝ }
     ensures { λ _. ⌜ now (out .exit) ≡ sets (now (out .entry)) at (groups left n) ⌝ }
 {

@@ -1,5 +1,6 @@
 -- A first group below 128 is the whole number; else the groups are read by the recursion, five at most.
 use native.Mathlib.Omega.{arith}
+use lib.ListN.{getD}
 use borrow.Author.Tests.{lt-ltb}
 use Rattle.script.specs.Number.{numberAt}
 use Rattle.script.specs.NumberLaws.{groupsAt-step}
@@ -7,11 +8,11 @@ use borrow.Author.Needs.{needs}
 use Rattle.script.proofs.number.read_number.Statement.{statement}
 use Rattle.script.proofs.number.read_number.Tie as tie
 
-shared-slice-read-b : tie.Need-shared-slice-read-b
-shared-slice-read-b c = search needs
+shared-slice-read-first : tie.Need-shared-slice-read-first
+shared-slice-read-first c = search needs
 
-cast-b : tie.Need-cast-b
-cast-b c = omega (arith, c .shared-slice-known2 .given (c .before .before .before .args .at))
+cast-first : tie.Need-cast-first
+cast-first c = omega (arith, c .shared-slice-known2 .given (c .before .before .before .args .at))
 
 add-t9 : tie.Need-add-t9
 add-t9 c = search needs
@@ -20,7 +21,7 @@ returns : tie.Need-returns
 unfolding numberAt
 returns c =
     rw (groupsAt-step (c .before .before .before .before .args .bytes .now) (c .before .before .before .before .args .at) 5 (omega arith))
-    (simp (lt-ltb _ _ (c .before .before .if1 .taken), lt-ltb _ _ (c .if2 .taken)))
+    (simp (lt-ltb _ _ (c .before .before .if1 .taken), lt-ltb (getD (c .before .before .before .before .args .bytes .now) (c .before .before .before .before .args .at) 0) 128 (omega arith)))
 
 read-groups-requires : tie.Need-read-groups-requires
 read-groups-requires c κs = search needs
@@ -31,4 +32,4 @@ returns-2 c = c .read-groups .ensures
 
 pub read-number-spec : {M : Type 1} → statement M
 read-number-spec =
-    tie.close (tie.spec shared-slice-read-b cast-b add-t9 returns read-groups-requires returns-2)
+    tie.close (tie.spec shared-slice-read-first cast-first add-t9 returns read-groups-requires returns-2)

@@ -1,5 +1,7 @@
 -- The tests come in the definition's order: 15, the kind, then what follows it.
 use mathlib.Core.Path.{sym, _∙_}
+use native.Mathlib.Omega.{arith}
+use lib.ListN.{length}
 use borrow.Author.Tests.{lt-ltb, le-ltb}
 use Rattle.script.specs.Reading.{readEvent, withKind}
 use borrow.Author.Needs.{needs}
@@ -8,7 +10,7 @@ use Rattle.script.proofs.reading.read_event.Tie as tie
 
 returns : tie.Need-returns
 unfolding readEvent
-returns c = simp (lt-ltb _ _ (c .if1 .taken))
+returns c = simp (lt-ltb 65536 (length (c .before .before .args .script .now)) (omega arith))
 
 read-number-requires : tie.Need-read-number-requires
 read-number-requires c κs = search needs
@@ -24,11 +26,11 @@ enum-told c = search needs
 
 returns-2 : tie.Need-returns-2
 unfolding readEvent withKind
-returns-2 c = c .read-arguments .ensures ∙ simp (le-ltb _ _ (c .before .before .before .before .before .if1 .left), sym (c .before .before .before .before .read-number .ensures) ∙ c .before .before .kind .given .1)
+returns-2 c = c .read-arguments .ensures ∙ simp (le-ltb 65536 (length (c .before .before .before .before .before .before .before .args .script .now)) (omega arith), sym (c .before .before .before .before .read-number .ensures) ∙ c .before .before .kind .given .1)
 
 returns-3 : tie.Need-returns-3
 unfolding readEvent withKind
-returns-3 c = simp (le-ltb _ _ (c .before .before .before .if1 .left), sym (c .before .before .read-number .ensures) ∙ c .enum-told .given .1)
+returns-3 c = simp (le-ltb 65536 (length (c .before .before .before .before .before .args .script .now)) (omega arith), sym (c .before .before .read-number .ensures) ∙ c .enum-told .given .1)
 
 pub read-event-spec : {M : Type 1} → statement M
 read-event-spec =

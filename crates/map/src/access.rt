@@ -1,0 +1,74 @@
+// The checks that register accesses and access verdicts share: width, alignment, privilege; and the byte of a word.
+ghost use mathlib.Core.Path.{_≡_};
+ghost use Prim.Native.Nat.{_%_};
+ghost use lib.Dec.{eqb};
+ghost use Rattle.rules.specs.Registers.{isWidth, accessRefusal, laneOf};
+ghost use Rattle.rules.specs.Step.{purposeOf, fitsAccess};
+use super::width_refusal;
+use mpu::Access;
+use rules::Register;
+
+pub fn is_width(w: u32) -> bool
+    ensures { λ r. ⌜ r ≡ isWidth w ⌝ }
+{
+    match w {
+        1 => true,
+        2 => true,
+        4 => true,
+        _ => false,
+    }
+}
+
+pub fn is_aligned(a: u32, w: u32) -> bool
+    ensures { λ r. ⌜ r ≡ eqb (a % w) 0 ⌝ }
+{
+    if w == 0 {
+        return a == 0;
+    }
+    a % w == 0
+}
+
+// 0 where the access is let through; `allowed` says that its privilege suffices.
+pub fn access_refusal(register: Register, allowed: bool, w: u32, a: u32) -> u32
+    ensures { λ r. ⌜ r ≡ accessRefusal register allowed w a ⌝ }
+{
+    if is_width(w) {
+        if is_aligned(a, w) {
+            if allowed {
+                return width_refusal(register, w);
+            }
+            return 3;
+        }
+        return 2;
+    }
+    1
+}
+
+// What an access of the width w at a answers of the word x.
+pub fn lane_of(w: u32, a: u32, x: u32) -> u32
+    ensures { λ r. ⌜ r ≡ laneOf w a x ⌝ }
+{
+    if w == 4 {
+        return x;
+    }
+    bits::wide(bits::byte_of(x, a % 4))
+}
+
+pub fn fits_access(kind: u32, w: u32) -> bool
+    ensures { λ r. ⌜ r ≡ fitsAccess kind w ⌝ }
+{
+    if kind == 2 {
+        return w == 2;
+    }
+    is_width(w)
+}
+
+pub fn purpose_of(kind: u32) -> Access
+    ensures { λ r. ⌜ r ≡ purposeOf kind ⌝ }
+{
+    match kind {
+        0 => Access::Read,
+        1 => Access::Write,
+        _ => Access::Fetch,
+    }
+}

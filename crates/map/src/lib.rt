@@ -1,0 +1,157 @@
+// The register map: the register at an address, and the widths that it takes.
+ghost use mathlib.Core.Path.{_≡_};
+ghost use mathlib.Core.Bool.{cond};
+ghost use lib.Dec.{eqb};
+ghost use Prim.Native.Nat.{_+_, _-_, _<_, _≤_};
+ghost use Rattle.mpu.specs.Registers.{mpuRegisterAt};
+ghost use Rattle.rules.specs.declared.Register.the-variants.{Flags, Priority};
+ghost use Rattle.rules.specs.Map.{flagWords, byteWords, inBlock, firstFlag, guardRegister, blockRegister, registerAt, widthRefusal};
+
+pub mod access;
+
+use mpu::MpuRegister;
+use rules::Bank;
+use rules::Chip;
+use rules::Register;
+use rules::SystemRegister;
+use rules::TimerRegister;
+
+fn flag_words(chip: Chip) -> usize
+    ensures { λ r. ⌜ r ≡ flagWords chip ⌝ }
+{
+    (chip.lines as usize + 31) / 32
+}
+
+fn byte_words(chip: Chip) -> usize
+    ensures { λ r. ⌜ r ≡ byteWords chip ⌝ }
+{
+    (chip.lines as usize + 3) / 4
+}
+
+// Whether a stands in the block of so many words from `base` on.
+fn in_block(base: u32, words: usize, a: u32) -> bool
+    requires { ⌜ words < 4294967296 ⌝ }
+    ensures { λ r. ⌜ r ≡ inBlock base words a ⌝ }
+{
+    if a < base {
+        return false;
+    }
+    (a as usize) < base as usize + 4 * words
+}
+
+fn first_flag(base: u32, a: u32) -> usize
+    requires { ⌜ base ≤ a ⌝ }
+    ensures { λ r. ⌜ r ≡ firstFlag base a ⌝ }
+{
+    16 + 8 * (a - base) as usize
+}
+
+fn guard_register(register: MpuRegister) -> Register
+    ensures { λ r. ⌜ r ≡ guardRegister register ⌝ }
+{
+    match register {
+        MpuRegister::Missing => Register::Missing,
+        MpuRegister::Kind => Register::Guard(register),
+        MpuRegister::Control => Register::Guard(register),
+        MpuRegister::Number => Register::Guard(register),
+        MpuRegister::Base => Register::Guard(register),
+        MpuRegister::Attributes => Register::Guard(register),
+    }
+}
+
+// The flags of a bank if a stands in its block, else what is there otherwise.
+fn flags_or(chip: Chip, base: u32, bank: Bank, a: u32, otherwise: Register) -> Register
+    ensures { λ r. ⌜ r ≡ cond (inBlock base (flagWords chip) a) (Flags bank (firstFlag base a)) otherwise ⌝ }
+{
+    if in_block(base, flag_words(chip), a) {
+        return Register::Flags(bank, first_flag(base, a));
+    }
+    otherwise
+}
+
+fn bytes_or(chip: Chip, a: u32, otherwise: Register) -> Register
+    ensures { λ r. ⌜ r ≡ cond (inBlock 0xE000E400 (byteWords chip) a) (Priority (16 + (a - 0xE000E400))) otherwise ⌝ }
+{
+    if in_block(0xe000e400, byte_words(chip), a) {
+        return Register::Priority(16 + (a - 0xe000e400) as usize);
+    }
+    otherwise
+}
+
+fn guard_or(a: u32, otherwise: Register) -> Register
+    ensures { λ r. ⌜ r ≡ cond (inBlock 0xE000ED90 11 a) (guardRegister (mpuRegisterAt (a - 0xE000ED90))) otherwise ⌝ }
+{
+    if in_block(0xe000ed90, 11, a) {
+        return guard_register(mpu::register_at(a - 0xe000ed90));
+    }
+    otherwise
+}
+
+// The blocks, whose length is the chip's, from the last to the first.
+fn block_register(chip: Chip, a: u32) -> Register
+    ensures { λ r. ⌜ r ≡ blockRegister chip a ⌝ }
+{
+    let guard = guard_or(a, Register::Missing);
+    let bytes = bytes_or(chip, a, guard);
+    let active = flags_or(chip, 0xe000e300, Bank::Active, a, bytes);
+    let clear = flags_or(chip, 0xe000e280, Bank::PendingClear, a, active);
+    let set = flags_or(chip, 0xe000e200, Bank::PendingSet, a, clear);
+    let disable = flags_or(chip, 0xe000e180, Bank::EnableClear, a, set);
+    flags_or(chip, 0xe000e100, Bank::EnableSet, a, disable)
+}
+
+// The register at an aligned address.
+pub fn register_at(chip: Chip, address: u32) -> Register
+    ensures { λ r. ⌜ r ≡ registerAt chip address ⌝ }
+{
+    match address {
+        0xe000e004 => Register::System(SystemRegister::Ictype),
+        0xe000e010 => Register::Timer(TimerRegister::Stctrl),
+        0xe000e014 => Register::Timer(TimerRegister::Streload),
+        0xe000e018 => Register::Timer(TimerRegister::Stcurrent),
+        0xe000ed00 => Register::System(SystemRegister::Cpuid),
+        0xe000ed04 => Register::System(SystemRegister::Intctrl),
+        0xe000ed08 => Register::System(SystemRegister::Vtable),
+        0xe000ed0c => Register::System(SystemRegister::Apint),
+        0xe000ed10 => Register::System(SystemRegister::Sysctrl),
+        0xe000ed14 => Register::System(SystemRegister::Cfgctrl),
+        0xe000ed18 => Register::Priority(4),
+        0xe000ed1c => Register::Priority(8),
+        0xe000ed20 => Register::Priority(12),
+        0xe000ed24 => Register::System(SystemRegister::Syshndctrl),
+        0xe000ed28 => Register::System(SystemRegister::Faultstat),
+        0xe000ed2c => Register::System(SystemRegister::Hfaultstat),
+        0xe000ed34 => Register::System(SystemRegister::Mmaddr),
+        0xe000ed38 => Register::System(SystemRegister::Faultaddr),
+        0xe000ef00 => Register::System(SystemRegister::Swtrig),
+        _ => block_register(chip, address),
+    }
+}
+
+fn word_only(w: u32) -> u32
+    ensures { λ r. ⌜ r ≡ cond (eqb w 4) 0 5 ⌝ }
+{
+    if w == 4 {
+        return 0;
+    }
+    5
+}
+
+// 4 where there is no register, 5 where the width is not allowed, else 0.
+pub fn width_refusal(register: Register, w: u32) -> u32
+    ensures { λ r. ⌜ r ≡ widthRefusal register w ⌝ }
+{
+    match register {
+        Register::Missing => 4,
+        Register::Timer(_) => word_only(w),
+        Register::Flags(_, _) => word_only(w),
+        Register::Priority(_) => {
+            if w == 2 {
+                return 5;
+            }
+            0
+        }
+        Register::System(_) => word_only(w),
+        Register::Guard(_) => word_only(w),
+    }
+}
