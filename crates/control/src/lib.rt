@@ -1,10 +1,11 @@
 // INTCTRL, SYSHNDCTRL, APINT and SWTRIG: the registers of the system block that show or change flags.
 ghost use mathlib.Core.Path.{_≡_};
-ghost use Prim.Native.Nat.{_+_, _*_, _^_, _≤_, _<_};
+ghost use Prim.Native.Nat.{_*_, _^_, _≤_, _<_};
 ghost use Rattle.bits.specs.Words.{bit};
 ghost use Rattle.bits.specs.Flags.{on};
 ghost use Rattle.rules.specs.Reads.{intctrlValue, syshndctrlValue};
 ghost use Rattle.rules.specs.Writes.{setOrClear, intctrlWritten, syshndctrlWritten, apintWritten, swtrigWritten};
+ghost use Rattle.control.specs.Shown.{enablesShown, pendingsShown, activesShown};
 use nvic::flags::flag_at;
 use nvic::flags::store_flag;
 use rules::Chip;
@@ -60,14 +61,14 @@ pub fn intctrl_written(pending: &mut [bool], v: u32)
 
 // SYSHNDCTRL bits 18:16.
 fn enables_shown(enabled: &[bool]) -> u32
-    ensures { λ r. ⌜ (r ≡ bit (on (now (enabled .entry)) 6) * 2 ^ 18 + bit (on (now (enabled .entry)) 5) * 2 ^ 17 + bit (on (now (enabled .entry)) 4) * 2 ^ 16) × (r < 2 ^ 19) ⌝ }
+    ensures { λ r. ⌜ (r ≡ enablesShown (now (enabled .entry))) × (r < 2 ^ 19) ⌝ }
 {
     shown(enabled, 6, 0x40000) + shown(enabled, 5, 0x20000) + shown(enabled, 4, 0x10000)
 }
 
 // SYSHNDCTRL bits 15:12.
 fn pendings_shown(pending: &[bool]) -> u32
-    ensures { λ r. ⌜ (r ≡ bit (on (now (pending .entry)) 11) * 2 ^ 15 + bit (on (now (pending .entry)) 5) * 2 ^ 14 + bit (on (now (pending .entry)) 4) * 2 ^ 13 + bit (on (now (pending .entry)) 6) * 2 ^ 12) × (r < 2 ^ 16) ⌝ }
+    ensures { λ r. ⌜ (r ≡ pendingsShown (now (pending .entry))) × (r < 2 ^ 16) ⌝ }
 {
     shown(pending, 11, 0x8000)
         + shown(pending, 5, 0x4000)
@@ -77,7 +78,7 @@ fn pendings_shown(pending: &[bool]) -> u32
 
 // SYSHNDCTRL bits 11:0.
 fn actives_shown(active: &[bool]) -> u32
-    ensures { λ r. ⌜ (r ≡ bit (on (now (active .entry)) 15) * 2 ^ 11 + bit (on (now (active .entry)) 14) * 2 ^ 10 + bit (on (now (active .entry)) 11) * 2 ^ 7 + bit (on (now (active .entry)) 6) * 2 ^ 3 + bit (on (now (active .entry)) 5) * 2 ^ 1 + bit (on (now (active .entry)) 4)) × (r < 2 ^ 12) ⌝ }
+    ensures { λ r. ⌜ (r ≡ activesShown (now (active .entry))) × (r < 2 ^ 12) ⌝ }
 {
     shown(active, 15, 0x800)
         + shown(active, 14, 0x400)

@@ -2,11 +2,10 @@
 ghost use mathlib.Core.Path.{_≡_};
 ghost use mathlib.Core.Bool.{cond};
 ghost use lib.Dec.{eqb};
-ghost use Prim.Native.Nat.{_+_, _-_, _<_, _≤_};
+ghost use Prim.Native.Nat.{_+_, _-_, _^_, _<_, _≤_};
 ghost use Rattle.mpu.specs.Registers.{mpuRegisterAt};
 ghost use Rattle.rules.specs.declared.Register.the-variants.{Flags, Priority};
 ghost use Rattle.rules.specs.Map.{flagWords, byteWords, inBlock, firstFlag, guardRegister, blockRegister, registerAt, widthRefusal};
-
 pub mod access;
 
 use mpu::MpuRegister;
@@ -28,9 +27,9 @@ fn byte_words(chip: Chip) -> usize
     (chip.lines as usize + 3) / 4
 }
 
-// Whether a stands in the block of so many words from `base` on.
+// Whether a stands in the block of so many words from `base` on. The words are a chip's, whose lines fit 32 bits, or the MPU's 11.
 fn in_block(base: u32, words: usize, a: u32) -> bool
-    requires { ⌜ words < 4294967296 ⌝ }
+    requires { ⌜ words < 2 ^ 32 ⌝ }
     ensures { λ r. ⌜ r ≡ inBlock base words a ⌝ }
 {
     if a < base {
@@ -39,6 +38,7 @@ fn in_block(base: u32, words: usize, a: u32) -> bool
     (a as usize) < base as usize + 4 * words
 }
 
+// The first exception of the flags at a, which the caller has found in the block.
 fn first_flag(base: u32, a: u32) -> usize
     requires { ⌜ base ≤ a ⌝ }
     ensures { λ r. ⌜ r ≡ firstFlag base a ⌝ }

@@ -1,17 +1,14 @@
 -- The rules' theorem at the 55-line chip: a reply's equation is the equation of the answer that it renames.
-use mathlib.Core.Path.{_≡_, refl, ap, subst, sym}
-use mathlib.Core.List.{List, [], _∷_, map}
+use mathlib.Core.Path.{ap, subst, sym}
+use mathlib.Core.List.{List, map}
 use Rattle.script.specs.declared.Event.{Event}
-use Rattle.script.specs.declared.Event.the-variants.{Entry}
 use Rattle.rules.specs.Chip.{chip55}
-use Rattle.rules.specs.Model.{Answer, fresh}
-use Rattle.rules.specs.Step.{stepOf}
 use Rattle.rules.specs.Demand3.{Calls, Entering}
 use Rattle.rules.specs.Demand3 as rules
 use Rattle.rules.proofs.Demand3.{demand3}
 use Rattle.model.specs.declared.State.{State}
 use Rattle.model.specs.declared.Reply.{Reply}
-use Rattle.model.specs.View.{model, reply}
+use Rattle.model.specs.View.{model}
 use Rattle.model.specs.Demand3.{answer, Called, stop, call, CodeDemand3}
 
 called : {s t : State} {es : List Event} {rs : List Reply} → Called s es rs t → Calls chip55 (model s) es (map answer rs) (model t)

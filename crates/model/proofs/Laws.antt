@@ -1,14 +1,14 @@
 -- What the calls share: the test of refusal 16 decides between a call and its refusal, and a sound state's numbers are in range.
 use Prim.Native.Nat.{ℕ, zero, suc, pred, _+_, _-_, _<_, _≤_}
-use mathlib.Core.Path.{_≡_, refl, sym, ap, subst, _∙_}
+use mathlib.Core.Path.{_≡_, refl, sym, subst}
 use mathlib.Core.List.{List, [], _∷_}
-use mathlib.Core.Bool.{Bool, true, false, cond, _&&_}
+use mathlib.Core.Bool.{Bool, true, false, _&&_}
 use native.Mathlib.Omega.{arith}
 use lib.ListN.{length, set}
 use lib.Dec.{T, ltb, leb, ltb→lt}
 use Rattle.bits.specs.Flags.{on}
 use Rattle.priority.specs.declared.Found.{Found}
-use Rattle.priority.specs.declared.Found.the-variants.{At, Nothing}
+use Rattle.priority.specs.declared.Found.the-variants.{At}
 use Rattle.priority.specs.Order.{is-true, both, by-cases}
 use Rattle.rules.specs.declared.Chip.{Chip}
 use Rattle.rules.specs.declared.Masks.{Masks}

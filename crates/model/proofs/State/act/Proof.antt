@@ -1,5 +1,5 @@
 -- One arm a kind.
-use mathlib.Core.Path.{_∙_, sym}
+use mathlib.Core.Path.{_∙_}
 use borrow.Author.Needs.{needs}
 use Rattle.model.proofs.State.act.Statement.{statement}
 use Rattle.model.proofs.State.act.Tie as tie

@@ -1,6 +1,6 @@
 -- The refusals 6, 1 and 2 in their order, then the verdict.
 use mathlib.Core.Path.{_∙_, sym}
-use borrow.Author.Tests.{lt-ltb, le-ltb, eq-eqb, ne-eqb}
+use borrow.Author.Tests.{lt-ltb, le-ltb}
 use Rattle.rules.specs.Step.{accessCall}
 use borrow.Author.Needs.{needs}
 use Rattle.model.proofs.State.act_access.Statement.{statement}

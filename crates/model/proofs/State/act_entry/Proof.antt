@@ -1,6 +1,5 @@
 -- The one found exists and the nest has room for it; where none is found, refusal 8.
 use mathlib.Core.Path.{_∙_, sym}
-use native.Mathlib.Omega.{arith}
 use Rattle.rules.specs.Nesting.{entryCall}
 use Rattle.rules.proofs.Nesting.{chosen-below}
 use Rattle.model.proofs.Laws.{vtable-below}
@@ -15,7 +14,9 @@ enum-known-found : tie.Need-enum-known-found
 enum-known-found c = search needs
 
 enter-requires : tie.Need-enter-requires
-enter-requires c κs = let p = chosen-below (c .before .before .before .before .pre) (c .before .found .given .0 .0) (sym (c .before .before .before .chosen .ensures) ∙ c .before .found .given .1) in (p .0, (p .1, vtable-below (c .before .before .before .before .pre .system)))
+enter-requires c κs =
+    let p = chosen-below (c .before .before .before .before .pre) (c .before .found .given .0 .0) (sym (c .before .before .before .chosen .ensures) ∙ c .before .found .given .1) in
+    (p .0, (p .1, vtable-below (c .before .before .before .before .pre .system)))
 
 enum-told : tie.Need-enum-told
 enum-told c = search needs

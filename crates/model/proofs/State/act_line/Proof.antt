@@ -1,5 +1,5 @@
 -- The refusal 6 for either number, then the level.
-use mathlib.Core.Path.{_∙_, sym}
+use mathlib.Core.Path.{_∙_}
 use borrow.Author.Tests.{le-leb, lt-leb, lt-ltb, le-ltb}
 use Rattle.rules.specs.Events.{lineCall}
 use borrow.Author.Needs.{needs}

@@ -1,5 +1,5 @@
 -- NMI becomes pending.
-use mathlib.Core.Path.{_∙_, sym}
+use mathlib.Core.Path.{_∙_}
 use borrow.Author.Needs.{needs}
 use Rattle.model.proofs.State.act_nmi.Statement.{statement}
 use Rattle.model.proofs.State.act_nmi.Tie as tie

@@ -1,6 +1,5 @@
 -- A link value that fits has something to return from; any other is refused by 9.
 use mathlib.Core.Path.{_∙_, sym}
-use native.Mathlib.Omega.{arith}
 use Rattle.rules.specs.Nesting.{returnCall}
 use Rattle.rules.proofs.Check.{depth-fits}
 use Rattle.rules.proofs.Nesting.{link-deep, top-below}
@@ -29,7 +28,9 @@ cast-returned : tie.Need-cast-returned
 cast-returned c = search needs
 
 returned-requires : tie.Need-returned-requires
-returned-requires c κs = let d = link-deep (c .before .before .before .before .before .before .before .pre) (c .before .before .before .before .before .before .before .args .value) (is-true (sym (c .before .before .before .before .before .before .link-fits .ensures) ∙ c .before .before .before .before .before .if1 .taken)) in (c .top .ensures, (rw (c .top .ensures) (top-below (c .before .before .before .before .before .before .before .pre) d), (d, depth-fits (c .before .before .before .before .before .before .before .pre))))
+returned-requires c κs =
+    let d = link-deep (c .before .before .before .before .before .before .before .pre) (c .before .before .before .before .before .before .before .args .value) (is-true (sym (c .before .before .before .before .before .before .link-fits .ensures) ∙ c .before .before .before .before .before .if1 .taken)) in
+    (c .top .ensures, (rw (c .top .ensures) (top-below (c .before .before .before .before .before .before .before .pre) d), (d, depth-fits (c .before .before .before .before .before .before .before .pre))))
 
 done-requires : tie.Need-done-requires
 done-requires c κs = search needs

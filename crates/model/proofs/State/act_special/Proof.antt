@@ -1,6 +1,6 @@
 -- Refusal 6, then nothing without privilege, then the masks.
 use mathlib.Core.Path.{_∙_, sym}
-use borrow.Author.Tests.{lt-ltb, le-ltb, eq-eqb, ne-eqb}
+use borrow.Author.Tests.{lt-ltb, le-ltb}
 use Rattle.rules.specs.Events.{specialCall}
 use native.Mathlib.Omega.{arith}
 use borrow.Author.Needs.{needs}

@@ -31,14 +31,20 @@ done-requires c κs = search needs
 
 returns : tie.Need-returns
 unfolding writeCall
-returns c = let e : accessRefusal (registerOf chip55 (c .before .before .before .before .before .before .args .address)) (privileged (model (c .before .before .before .before .before .before .args .self)) || freeWrite (model (c .before .before .before .before .before .before .args .self)) (c .before .before .before .before .before .before .args .width) (c .before .before .before .before .before .before .args .address)) (c .before .before .before .before .before .before .args .width) (c .before .before .before .before .before .before .args .address) ≡ c .before .before .before .access-refusal .result = sym (simp (c .before .before .before .before .before .register-at .ensures, c .before .before .before .before .may-write .ensures) at (c .before .before .before .access-refusal .ensures)) in c .done .ensures ∙ simp (c .before .written .ensures, e, eq-eqb _ _ (c .before .before .if1 .taken))
+returns c =
+    let e : accessRefusal (registerOf chip55 (c .before .before .before .before .before .before .args .address)) (privileged (model (c .before .before .before .before .before .before .args .self)) || freeWrite (model (c .before .before .before .before .before .before .args .self)) (c .before .before .before .before .before .before .args .width) (c .before .before .before .before .before .before .args .address)) (c .before .before .before .before .before .before .args .width) (c .before .before .before .before .before .before .args .address) ≡ c .before .before .before .access-refusal .result
+    = sym (simp (c .before .before .before .before .before .register-at .ensures, c .before .before .before .before .may-write .ensures) at (c .before .before .before .access-refusal .ensures)) in
+    c .done .ensures ∙ simp (c .before .written .ensures, e, eq-eqb _ _ (c .before .before .if1 .taken))
 
 refuse-requires : tie.Need-refuse-requires
 refuse-requires c κs = search needs
 
 returns-2 : tie.Need-returns-2
 unfolding writeCall
-returns-2 c = let e : accessRefusal (registerOf chip55 (c .before .before .before .before .before .args .address)) (privileged (model (c .before .before .before .before .before .args .self)) || freeWrite (model (c .before .before .before .before .before .args .self)) (c .before .before .before .before .before .args .width) (c .before .before .before .before .before .args .address)) (c .before .before .before .before .before .args .width) (c .before .before .before .before .before .args .address) ≡ c .before .before .access-refusal .result = sym (simp (c .before .before .before .before .register-at .ensures, c .before .before .before .may-write .ensures) at (c .before .before .access-refusal .ensures)) in c .refuse .ensures ∙ simp (e, ne-eqb _ _ (c .before .if1 .left))
+returns-2 c =
+    let e : accessRefusal (registerOf chip55 (c .before .before .before .before .before .args .address)) (privileged (model (c .before .before .before .before .before .args .self)) || freeWrite (model (c .before .before .before .before .before .args .self)) (c .before .before .before .before .before .args .width) (c .before .before .before .before .before .args .address)) (c .before .before .before .before .before .args .width) (c .before .before .before .before .before .args .address) ≡ c .before .before .access-refusal .result
+    = sym (simp (c .before .before .before .before .register-at .ensures, c .before .before .before .may-write .ensures) at (c .before .before .access-refusal .ensures)) in
+    c .refuse .ensures ∙ simp (e, ne-eqb _ _ (c .before .if1 .left))
 
 pub act-write-spec : {M : Type 1} → statement M
 act-write-spec =

@@ -1,5 +1,5 @@
 -- Only a timer register changes anything when it is read.
-use mathlib.Core.Path.{_∙_, sym}
+use mathlib.Core.Path.{_∙_}
 use Rattle.rules.specs.Reads.{afterRead}
 use borrow.Author.Needs.{needs}
 use Rattle.model.proofs.State.after_read.Statement.{statement}

@@ -1,5 +1,5 @@
 -- Each bank shows its flags.
-use mathlib.Core.Path.{_∙_, sym}
+use mathlib.Core.Path.{_∙_}
 use Rattle.rules.specs.Reads.{bankValue}
 use borrow.Author.Needs.{needs}
 use Rattle.model.proofs.State.bank_value.Statement.{statement}

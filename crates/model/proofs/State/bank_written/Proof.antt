@@ -1,5 +1,5 @@
 -- Each bank by its own clause.
-use mathlib.Core.Path.{_∙_, sym}
+use mathlib.Core.Path.{_∙_}
 use Rattle.rules.specs.Writes.{bankWritten}
 use borrow.Author.Needs.{needs}
 use Rattle.model.proofs.State.bank_written.Statement.{statement}

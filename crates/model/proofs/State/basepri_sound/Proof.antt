@@ -1,5 +1,4 @@
 -- The kept byte, compared.
-use mathlib.Core.Path.{_∙_, sym}
 use borrow.Author.Needs.{needs}
 use Rattle.model.proofs.State.basepri_sound.Statement.{statement}
 use Rattle.model.proofs.State.basepri_sound.Tie as tie

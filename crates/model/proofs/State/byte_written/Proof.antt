@@ -1,5 +1,5 @@
 -- Only priority bytes are written singly.
-use mathlib.Core.Path.{_∙_, sym}
+use mathlib.Core.Path.{_∙_}
 use Rattle.rules.specs.Writes.{byteWritten}
 use borrow.Author.Needs.{needs}
 use Rattle.model.proofs.State.byte_written.Statement.{statement}

@@ -1,6 +1,5 @@
 -- The search over the state's arrays.
-use mathlib.Core.Path.{_∙_, sym}
-use Rattle.rules.specs.Nesting.{chosen}
+use mathlib.Core.Path.{_∙_}
 use mir.Syntax.{w32}
 use mir.Facts.{toZ-ofZ}
 use borrow.Author.Needs.{needs}

@@ -1,6 +1,6 @@
 -- The three tests of the definition.
-use mathlib.Core.Path.{_∙_, sym}
-use borrow.Author.Tests.{lt-ltb, le-ltb, eq-eqb, ne-eqb}
+use mathlib.Core.Path.{_∙_}
+use borrow.Author.Tests.{eq-eqb, ne-eqb}
 use borrow.Author.Needs.{needs}
 use Rattle.model.proofs.State.free_write.Statement.{statement}
 use Rattle.model.proofs.State.free_write.Tie as tie

@@ -1,6 +1,5 @@
 -- The nest's top is an exception's number.
-use mathlib.Core.Path.{_∙_, sym}
-use native.Mathlib.Omega.{arith}
+use mathlib.Core.Path.{_∙_}
 use Rattle.model.proofs.Laws.{top-byte}
 use borrow.Author.Needs.{needs}
 use Rattle.model.proofs.State.intctrl_value.Statement.{statement}

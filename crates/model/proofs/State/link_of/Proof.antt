@@ -1,5 +1,5 @@
 -- By the mode, then CONTROL bit 1.
-use borrow.Author.Tests.{lt-ltb, le-ltb, eq-eqb, ne-eqb}
+use borrow.Author.Tests.{lt-ltb, le-ltb}
 use Rattle.model.proofs.State.link_of.Statement.{statement}
 use Rattle.model.proofs.State.link_of.Tie as tie
 

@@ -1,5 +1,5 @@
 -- A line that is still high becomes pending.
-use mathlib.Core.Path.{_∙_, sym}
+use mathlib.Core.Path.{_∙_}
 use Rattle.rules.specs.Nesting.{repended}
 use borrow.Author.Needs.{needs}
 use Rattle.model.proofs.State.repended.Statement.{statement}

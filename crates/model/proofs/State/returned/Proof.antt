@@ -15,10 +15,16 @@ element-write-next : tie.Need-element-write-next
 element-write-next c = search needs
 
 sub-depth : tie.Need-sub-depth
-sub-depth c = let e = ap (λ (s : State). s .depth) (c .repended .ensures) ∙ repended-depth _ _ in let p = c .before .pre in omega arith
+sub-depth c =
+    let e = ap (λ (s : State). s .depth) (c .repended .ensures) ∙ repended-depth _ _ in
+    let p = c .before .pre in
+    omega arith
 
 element-write-next-2 : tie.Need-element-write-next-2
-element-write-next-2 c = let e = ap (λ (s : State). s .depth) (c .repended .ensures) ∙ repended-depth _ _ in let p = c .before .pre in omega arith
+element-write-next-2 c =
+    let e = ap (λ (s : State). s .depth) (c .repended .ensures) ∙ repended-depth _ _ in
+    let p = c .before .pre in
+    omega arith
 
 returned-masks-requires : tie.Need-returned-masks-requires
 returned-masks-requires c κs = search needs

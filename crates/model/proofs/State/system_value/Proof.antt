@@ -1,5 +1,5 @@
 -- Each register by its own clause.
-use mathlib.Core.Path.{_∙_, sym}
+use mathlib.Core.Path.{_∙_}
 use Rattle.rules.specs.Reads.{systemValue}
 use borrow.Author.Needs.{needs}
 use Rattle.model.proofs.State.system_value.Statement.{statement}

@@ -1,5 +1,5 @@
 -- Each register by its own clause.
-use mathlib.Core.Path.{_∙_, sym}
+use mathlib.Core.Path.{_∙_}
 use Rattle.rules.specs.Writes.{systemWritten}
 use borrow.Author.Needs.{needs}
 use Rattle.model.proofs.State.system_written.Statement.{statement}

@@ -1,5 +1,5 @@
 -- Each part answers for its registers.
-use mathlib.Core.Path.{_∙_, sym}
+use mathlib.Core.Path.{_∙_}
 use Rattle.rules.specs.Reads.{valueOf}
 use borrow.Author.Needs.{needs}
 use Rattle.model.proofs.State.value_of.Statement.{statement}

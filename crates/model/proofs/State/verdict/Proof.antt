@@ -1,5 +1,5 @@
 -- The guard's verdict on the state's privilege and priority.
-use mathlib.Core.Path.{_∙_, sym}
+use mathlib.Core.Path.{_∙_}
 use borrow.Author.Needs.{needs}
 use Rattle.model.proofs.State.verdict.Statement.{statement}
 use Rattle.model.proofs.State.verdict.Tie as tie

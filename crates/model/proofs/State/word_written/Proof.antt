@@ -1,5 +1,5 @@
 -- Each part takes the writes to its registers.
-use mathlib.Core.Path.{_∙_, sym}
+use mathlib.Core.Path.{_∙_}
 use Rattle.rules.specs.Writes.{wordWritten}
 use borrow.Author.Needs.{needs}
 use Rattle.model.proofs.State.word_written.Statement.{statement}

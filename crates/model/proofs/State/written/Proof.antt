@@ -1,6 +1,6 @@
 -- A word, or one byte of it.
-use mathlib.Core.Path.{_∙_, sym}
-use borrow.Author.Tests.{lt-ltb, le-ltb, eq-eqb, ne-eqb}
+use mathlib.Core.Path.{_∙_}
+use borrow.Author.Tests.{eq-eqb, ne-eqb}
 use Rattle.rules.specs.Registers.{written}
 use borrow.Author.Needs.{needs}
 use Rattle.model.proofs.State.written.Statement.{statement}

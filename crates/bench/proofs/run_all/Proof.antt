@@ -1,0 +1,74 @@
+-- With room for a line each call ends the script or moves on in it (`headway` of its contract), so the loop ends.
+use Prim.Native.Nat.{_-_}
+use mathlib.Core.Path.{_≡_, sym}
+use native.Mathlib.Omega.{arith}
+use lib.ListN.{length}
+use lib.Seq.{length-take-le}
+use Rattle.run.specs.Running.{Usable}
+use Rattle.bench.proofs.Laws.{left, left-falls}
+use borrow.Author.Needs.{needs}
+use Rattle.bench.proofs.run_all.Statement.{statement}
+use Rattle.bench.proofs.run_all.Tie as tie
+
+abbrev Inv-loop : tie.InvT-loop
+Inv-loop script out₀ progress₀ out progress = Usable progress × (65536 ≡ length out)
+
+abbrev μ-loop : tie.MeasureT-loop
+μ-loop script out₀ progress₀ out progress = left (progress .ended) (length script - progress .at)
+
+large-buffer-requires : tie.Need-large-buffer-requires Inv-loop μ-loop
+large-buffer-requires c κs = search needs
+
+start-requires : tie.Need-start-requires Inv-loop μ-loop
+start-requires c κs = search needs
+
+loop-holds : tie.Need-loop-holds Inv-loop μ-loop
+loop-holds c = (c .start .ensures .1 .0, search needs)
+
+slice-aggregate-run-some : tie.Need-slice-aggregate-run-some Inv-loop μ-loop
+slice-aggregate-run-some c = search needs
+
+run-some-requires : tie.Need-run-some-requires Inv-loop μ-loop
+run-some-requires c κs = search needs
+
+array-share-prefix-out : tie.Need-array-share-prefix-out Inv-loop μ-loop
+array-share-prefix-out c = search needs
+
+slice-aggregate-write-all : tie.Need-slice-aggregate-write-all Inv-loop μ-loop
+slice-aggregate-write-all c = sym (length-take-le _ _ (c .before .before .run-some .ensures .within))
+
+write-all-requires : tie.Need-write-all-requires Inv-loop μ-loop
+write-all-requires c κs = search needs
+
+loop-less : tie.Need-loop-less Inv-loop μ-loop
+loop-less c =
+    let r = c .before .before .before .run-some in
+    let t = c .before .before .before .before .before in
+    let l = t .before .before .loop in
+    left-falls (l .progress .ended) (r .result .ended) _ _ _ (t .if1 .taken) (r .ensures .headway (l .inv .0) (omega (arith, l .inv .1)))
+
+loop-again : tie.Need-loop-again Inv-loop μ-loop
+loop-again c =
+    let r = c .before .before .before .run-some in
+    let l = c .before .before .before .before .before .before .before .loop in (r .ensures .usable (l .inv .0), search needs)
+
+returns : tie.Need-returns Inv-loop μ-loop
+returns c = search needs
+
+pub run-all-spec : {M : Type 1} → statement M
+run-all-spec =
+    tie.close
+    (tie.spec
+    Inv-loop
+    μ-loop
+    large-buffer-requires
+    start-requires
+    loop-holds
+    slice-aggregate-run-some
+    run-some-requires
+    array-share-prefix-out
+    slice-aggregate-write-all
+    write-all-requires
+    loop-less
+    loop-again
+    returns)
