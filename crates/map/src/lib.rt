@@ -6,6 +6,7 @@ ghost use Prim.Native.Nat.{_+_, _-_, _^_, _<_, _≤_};
 ghost use Rattle.mpu.specs.Registers.{mpuRegisterAt};
 ghost use Rattle.rules.specs.declared.Register.the-variants.{Flags, Priority};
 ghost use Rattle.rules.specs.Map.{flagWords, byteWords, inBlock, firstFlag, guardRegister, blockRegister, registerAt, widthRefusal};
+
 pub mod access;
 
 use mpu::MpuRegister;
