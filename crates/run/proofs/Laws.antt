@@ -1,11 +1,9 @@
 -- A script is its next event and the script after it, so its text is the line of that event and the text of the rest.
 use Prim.Native.Nat.{ℕ, zero, suc, _+_, _≤_, _<_}
-use mathlib.Core.Path.{_≡_, refl, sym, ap, _∙_}
+use mathlib.Core.Path.{_≡_, refl, sym, _∙_}
 use mathlib.Core.List.{List, [], _∷_, _++_, append-assoc}
-use mathlib.Core.Bool.{Bool, true, false}
 use native.Mathlib.Omega.{arith}
 use lib.ListN.{length}
-use lib.Dec.{ltb}
 use borrow.Author.Tests.{lt-ltb, le-ltb}
 use Rattle.decimal.specs.Decimal.{brokenText}
 use Rattle.script.specs.declared.Event.{Event}
@@ -14,11 +12,11 @@ use Rattle.script.specs.declared.ReadEvent.the-variants.{Found, Refused}
 use Rattle.script.specs.EventLaws.{event-read}
 use Rattle.script.specs.NumberLaws.{Bytes}
 use Rattle.script.specs.Reading.{readEvent}
-use Rattle.script.specs.Script.{Script, whole, brokenBy, followed, scriptFrom}
+use Rattle.script.specs.Script.{whole, brokenBy, followed, scriptFrom}
 use Rattle.rules.specs.declared.Chip.{Chip}
 use Rattle.rules.specs.Model.{Model}
 use Rattle.rules.specs.Sound.{Sound}
-use Rattle.rules.specs.Step.{actOf, answersOf}
+use Rattle.rules.specs.Step.{actOf}
 use Rattle.rules.proofs.Check.{step-sound}
 use Rattle.run.specs.Text.{lineOf, linesOf, endText, scriptText}
 use Rattle.run.specs.Running.{scriptAt, restText}

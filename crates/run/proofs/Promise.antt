@@ -1,9 +1,9 @@
 -- What each way out of a call gives is what the call promises.
-use Prim.Native.Nat.{ℕ, _+_, _≤_, _<_}
+use Prim.Native.Nat.{ℕ, suc, _+_, _-_, _≤_, _<_}
 use mathlib.Core.Path.{_≡_, refl, sym, ap, _∙_}
 use mathlib.Core.Logic.{_⊎_, inl, inr, ⊎-elim}
 use mathlib.Core.List.{List, append-nil}
-use mathlib.Core.Bool.{Bool, true, false, _&&_}
+use mathlib.Core.Bool.{Bool, true, false, not, _&&_}
 use native.Mathlib.Omega.{arith}
 use lib.ListN.{length}
 use lib.Dec.{T, leb, le→leb, leb→le}
@@ -122,3 +122,16 @@ module _ {script : List ℕ} {p : Progress} {old new : List ℕ} {s : State} {at
         usable = λ _. rw (d .done) (record { sound = g .sound; counted = g .counted });
         held = usable-held r;
       }
+
+-- ---- a caller's loop: with room for a line each call ends the script or moves on in it
+
+-- how many calls there may be yet, with so many bytes ahead
+abbrev pub left : Bool → ℕ → ℕ
+left true ahead = 0
+left false ahead = suc ahead
+
+pub left-falls : (was is : Bool) (n a b : ℕ) → not was ≡ true → (is ≡ true) ⊎ ((a < b) × (b ≤ n)) → left is (n - b) < left was (n - a)
+left-falls true is n a b e w = let z : _≡_ {A = ℕ} 0 1 = cc in let x : ⊥ = omega arith in absurd x
+left-falls false true n a b e w = omega arith
+left-falls false false n a b e (inl d) = let z : _≡_ {A = ℕ} 0 1 = cc in let x : ⊥ = omega arith in absurd x
+left-falls false false n a b e (inr w) = omega (arith, w .0, w .1)

@@ -47,6 +47,23 @@ pub record Usable (p : Progress) : Type 0 where
   pub sound : Sound chip55 (model (p .state))
   pub counted : p .events ≤ p .at
 
+-- ---- the promise
+
+-- What a call does that goes on from p over lent bytes `old`, hands r back and leaves `new`.
+pub record Ran (script : List ℕ) (p : Progress) (old : List ℕ) (r : Progress) (new : List ℕ) : Type 0 where
+  -- what it wrote, followed by what the rest gives, is what was left to write
+  pub told : take (r .wrote) new ++ restOf script r ≡ restOf script p
+  pub within : r .wrote ≤ length new
+  -- the bytes past what it wrote stay
+  pub stays : drop (r .wrote) new ≡ drop (r .wrote) old
+  -- it writes as many lines as fit: it stops at the end, or where the longest line has no room
+  pub full : Usable p → (r .ended ≡ true) ⊎ (length old < r .wrote + lineRoom)
+  -- so with room for a line it ends or moves on in the script, and can be called again
+  pub headway : Usable p → lineRoom ≤ length old → (r .ended ≡ true) ⊎ ((p .at < r .at) × (r .at ≤ length script))
+  pub usable : Usable p → Usable r
+  -- from a progress that no script can have it does nothing
+  pub held : isUsable p ≡ false → length script ≤ 65536 → r ≡ unmoved p
+
 -- ---- the code's own steps: what the public functions promise does not mention them
 
 abbrev pub finished : Progress → ℕ → Progress
@@ -70,20 +87,3 @@ pub record Closed (script : List ℕ) (p : Progress) (old : List ℕ) (r : Progr
   pub done : r ≡ finished p (r .wrote)
   pub puts : Puts (p .wrote) (restOf script p) old (r .wrote) new
   pub within : r .wrote ≤ length new
-
--- ---- the promise
-
--- What a call does that goes on from p over lent bytes `old`, hands r back and leaves `new`.
-pub record Ran (script : List ℕ) (p : Progress) (old : List ℕ) (r : Progress) (new : List ℕ) : Type 0 where
-  -- what it wrote, followed by what the rest gives, is what was left to write
-  pub told : take (r .wrote) new ++ restOf script r ≡ restOf script p
-  pub within : r .wrote ≤ length new
-  -- the bytes past what it wrote stay
-  pub stays : drop (r .wrote) new ≡ drop (r .wrote) old
-  -- it writes as many lines as fit: it stops at the end, or where the longest line has no room
-  pub full : Usable p → (r .ended ≡ true) ⊎ (length old < r .wrote + lineRoom)
-  -- so with room for a line it ends or moves on in the script, and can be called again
-  pub headway : Usable p → lineRoom ≤ length old → (r .ended ≡ true) ⊎ ((p .at < r .at) × (r .at ≤ length script))
-  pub usable : Usable p → Usable r
-  -- from a progress that no script can have it does nothing
-  pub held : isUsable p ≡ false → length script ≤ 65536 → r ≡ unmoved p

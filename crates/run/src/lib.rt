@@ -2,11 +2,12 @@
 ghost use mathlib.Core.Path.{_≡_};
 ghost use mathlib.Core.Bool.{true, false};
 ghost use mathlib.Core.List.{List};
-ghost use Prim.Native.Nat.{ℕ, _+_, _≤_, _<_};
+ghost use Prim.Native.Nat.{ℕ, _<_};
 ghost use lib.ListN.{length};
 ghost use Rattle.rules.specs.Chip.{chip55};
 ghost use Rattle.run.specs.Text.{textOf};
 ghost use Rattle.run.specs.Running.{restOf, started, unmoved, finished, isUsable, Usable, Ready, Stuck, Closed, Ran};
+use model::Reply;
 use model::State;
 use script::ReadEvent;
 
@@ -78,18 +79,27 @@ fn close(script: &[u8], p: Progress, number: u32, out: &mut [u8]) -> Progress
     finished(p, decimal::put_broken(out, p.wrote, number, p.at as u32))
 }
 
-// The state is not tested at each event: a sound state is sound after any event (`act-sound` of the rules).
+// The state is not tested at each event: a sound state is sound after any event (`act-sound` of the rules). The last reply is kept,
+// so that no state is copied between calls.
 fn run_events(script: &[u8], progress: Progress, out: &mut [u8]) -> Progress
     requires { ⌜ Ready (now script) progress ⌝ }
     ensures { λ r. ⌜ Ran (now (script .entry)) progress (now (out .entry)) r (now (out .exit)) ⌝ }
 {
-    let mut state = progress.state;
+    let state = progress.state;
+    let mut reply = Reply {
+        refusal: 0,
+        value: 0,
+        vector: 0,
+        link: 0,
+        state,
+    };
     let mut at = progress.at;
     let mut events = progress.events;
     let mut wrote = 0;
     while LINE_ROOM <= out.len() - wrote {
         match script::read_event(script, at) {
             ReadEvent::Refused(number) => {
+                let state = reply.state;
                 let p = Progress {
                     state,
                     at,
@@ -100,8 +110,7 @@ fn run_events(script: &[u8], progress: Progress, out: &mut [u8]) -> Progress
                 return close(script, p, number, out);
             }
             ReadEvent::Found(event, next) => {
-                let reply = state.act(event);
-                state = reply.state;
+                reply = reply.state.act(event);
                 at = next;
                 events += 1;
                 wrote = decimal::put_line(
@@ -110,12 +119,13 @@ fn run_events(script: &[u8], progress: Progress, out: &mut [u8]) -> Progress
                     events,
                     reply.refusal,
                     reply.value,
-                    state.top(),
-                    state.execution(),
+                    reply.state.top(),
+                    reply.state.execution(),
                 );
             }
         }
     }
+    let state = reply.state;
     Progress {
         state,
         at,
@@ -136,6 +146,7 @@ fn run_long(script: &[u8], p: Progress, out: &mut [u8]) -> Progress
     finished(p, decimal::put_broken(out, 0, 15, 65536))
 }
 
+// Goes on with a script from where the last call left it, and writes as many lines as fit into `out`.
 pub fn run_some(script: &[u8], progress: Progress, out: &mut [u8]) -> Progress
     ensures { λ r. ⌜ Ran (now (script .entry)) progress (now (out .entry)) r (now (out .exit)) ⌝ }
 {

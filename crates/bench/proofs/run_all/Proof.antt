@@ -5,7 +5,7 @@ use native.Mathlib.Omega.{arith}
 use lib.ListN.{length}
 use lib.Seq.{length-take-le}
 use Rattle.run.specs.Running.{Usable}
-use Rattle.bench.proofs.Laws.{left, left-falls}
+use Rattle.run.proofs.Promise.{left, left-falls}
 use borrow.Author.Needs.{needs}
 use Rattle.bench.proofs.run_all.Statement.{statement}
 use Rattle.bench.proofs.run_all.Tie as tie

@@ -19,10 +19,10 @@ use Rattle.run.proofs.run_events.Statement.{statement}
 use Rattle.run.proofs.run_events.Tie as tie
 
 abbrev Inv-loop : tie.InvT-loop
-Inv-loop script out₀ state₀ at₀ events₀ wrote₀ out state at events wrote = Going script (model state₀) at₀ events₀ out₀ out (model state) at events wrote
+Inv-loop script out₀ reply₀ at₀ events₀ wrote₀ out reply at events wrote = Going script (model (reply₀ .state)) at₀ events₀ out₀ out (model (reply .state)) at events wrote
 
 abbrev μ-loop : tie.MeasureT-loop
-μ-loop script out₀ state₀ at₀ events₀ wrote₀ out state at events wrote = length script - at
+μ-loop script out₀ reply₀ at₀ events₀ wrote₀ out reply at events wrote = length script - at
 
 small : (c : tie.After-shared-slice-known Inv-loop μ-loop) → Bytes (c .before .args .script .now)
 small c i = omega (arith, c .shared-slice-known .given i)
@@ -47,11 +47,11 @@ enum-known-number c = search needs
 
 close-requires : tie.Need-close-requires Inv-loop μ-loop
 close-requires c κs =
-    let r = c .before .before .before .before in
+    let r = c .before .before .before .before .before in
     record {
       short = r .before .before .before .before .before .before .pre .short;
       going = refl;
-      refused = sym (r .read-event .ensures) ∙ c .before .before .number .given .1;
+      refused = sym (r .read-event .ensures) ∙ c .before .before .before .number .given .1;
       room = omega arith;
     }
 
@@ -61,7 +61,7 @@ same-length c = omega arith
 returns : tie.Need-returns Inv-loop μ-loop
 returns c =
     let k = c .before .before in
-    let r = k .before .before .before .before .before in
+    let r = k .before .before .before .before .before .before in
     ran-closed (r .before .before .before .before .before .before .pre) (r .before .before .loop .inv) _ _ (k .close .ensures)
 
 enum-known-event : tie.Need-enum-known-event Inv-loop μ-loop
@@ -72,7 +72,7 @@ act-requires c κs = c .before .before .before .before .before .loop .inv .sound
 
 add-events : tie.Need-add-events Inv-loop μ-loop
 add-events c =
-    let e = c .before .before .before in
+    let e = c .before .before in
     omega (arith, read e .forward, read e .inside, e .before .before .before .before .loop .inv .counted)
 
 top-requires : tie.Need-top-requires Inv-loop μ-loop
@@ -80,24 +80,24 @@ top-requires c κs = search needs
 
 execution-requires : tie.Need-execution-requires Inv-loop μ-loop
 execution-requires c κs =
-    let a = c .before .before .before in
+    let a = c .before .before in
     let e = a .before .before in
     rw (a .act .ensures) (act-sound (e .before .before .before .before .loop .inv .sound) (e .event .given .0 .0))
 
 put-line-requires : tie.Need-put-line-requires Inv-loop μ-loop
 put-line-requires c κs =
-    let t = c .before .before .before .before .before .before .before .before .before in
+    let t = c .before .before .before .before .before .before .before .before in
     omega (arith, t .loop-test .taken, t .before .loop .inv .within)
 
 loop-less : tie.Need-loop-less Inv-loop μ-loop
-loop-less c = let e = c .before .before .before .before .before .before .before .before .before in omega (arith, read e .forward, read e .inside)
+loop-less c = let e = c .before .before .before .before .before .before .before .before in omega (arith, read e .forward, read e .inside)
 
 loop-again : tie.Need-loop-again Inv-loop μ-loop
 loop-again c =
     let w = c .before .before in
     let x = w .before in
     let t = x .before in
-    let a = t .before .before .before in
+    let a = t .before .before in
     let e = a .before .before in
     let l = e .before .before .before .before in
     let k = l .before .before .before in
@@ -105,10 +105,10 @@ loop-again c =
     going-next (k .before .pre .short) (small k) (l .loop .inv) _ _ (found e) (a .act .result) (a .act .ensures) (t .top .result) (t .top .ensures) (x .execution .result) (x .execution .ensures) (w .put-line .result) (w .put-line .last .0) (simp z at (w .put-line .ensures .0)) (omega (arith, w .put-line .ensures .1, e .before .before .before .loop-test .taken))
 
 same-length-2 : tie.Need-same-length-2 Inv-loop μ-loop
-same-length-2 c = omega (arith, c .before .loop .inv .sized)
+same-length-2 c = omega (arith, c .before .before .loop .inv .sized)
 
 returns-2 : tie.Need-returns-2 Inv-loop μ-loop
-returns-2 c = ran-full (c .before .before .before .before .before .pre) (c .before .loop .inv) (omega arith)
+returns-2 c = ran-full (c .before .before .before .before .before .before .pre) (c .before .before .loop .inv) (omega arith)
 
 pub run-events-spec : {M : Type 1} → statement M
 run-events-spec =

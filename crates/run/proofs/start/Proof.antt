@@ -1,5 +1,4 @@
 -- The fresh state is sound, and the script from offset 0 on is the whole script.
-use mathlib.Core.Path.{refl}
 use native.Mathlib.Omega.{arith}
 use Rattle.rules.specs.Chip.{chip55}
 use Rattle.rules.proofs.Steps.{sound-fresh}

@@ -1,0 +1,103 @@
+-- Each piece that agrees moves on in `want` (`judging-next`); where the script has ended and `want` too, they are the same.
+use Prim.Native.Nat.{_-_}
+use mathlib.Core.Path.{_≡_, sym}
+use native.Mathlib.Omega.{arith}
+use lib.ListN.{length}
+use lib.Seq.{length-take-le}
+use Rattle.run.specs.Running.{Usable}
+use Rattle.run.proofs.Promise.{left, left-falls}
+use Rattle.vectors.proofs.Laws.{Judging, judging-next, judged}
+use borrow.Author.Needs.{needs}
+use Rattle.vectors.proofs.first_difference.Statement.{statement}
+use Rattle.vectors.proofs.first_difference.Tie as tie
+
+abbrev Inv-loop : tie.InvT-loop
+Inv-loop script want out₀ progress₀ at₀ out progress at = Usable progress × (65536 ≡ length out) × Judging script want progress at
+
+abbrev μ-loop : tie.MeasureT-loop
+μ-loop script want out₀ progress₀ at₀ out progress at = left (progress .ended) (length script - progress .at)
+
+large-buffer-requires : tie.Need-large-buffer-requires Inv-loop μ-loop
+large-buffer-requires c κs = search needs
+
+start-requires : tie.Need-start-requires Inv-loop μ-loop
+start-requires c κs = search needs
+
+loop-holds : tie.Need-loop-holds Inv-loop μ-loop
+loop-holds c = (c .start .ensures .1 .0, search needs, record { inside = omega arith; told = c .start .ensures .1 .1 _ })
+
+slice-aggregate-run-some : tie.Need-slice-aggregate-run-some Inv-loop μ-loop
+slice-aggregate-run-some c = search needs
+
+run-some-requires : tie.Need-run-some-requires Inv-loop μ-loop
+run-some-requires c κs = search needs
+
+array-share-prefix-out : tie.Need-array-share-prefix-out Inv-loop μ-loop
+array-share-prefix-out c = search needs
+
+slice-aggregate-agreeing : tie.Need-slice-aggregate-agreeing Inv-loop μ-loop
+slice-aggregate-agreeing c = sym (length-take-le _ _ (c .before .before .run-some .ensures .within))
+
+agreeing-requires : tie.Need-agreeing-requires Inv-loop μ-loop
+agreeing-requires c κs = c .before .before .before .before .before .before .loop .inv .2 .inside
+
+add-line-at : tie.Need-add-line-at Inv-loop μ-loop
+add-line-at c = omega (arith, c .before .agreeing .ensures .inside, c .before .before .before .before .before .before .before .before .before .before .before .before .before .pre)
+
+line-at-requires : tie.Need-line-at-requires Inv-loop μ-loop
+line-at-requires c κs = (c .before .agreeing .ensures .inside, c .before .before .before .before .before .before .before .before .before .before .before .before .before .pre)
+
+returns : tie.Need-returns Inv-loop μ-loop
+returns c = λ e. let z : ⊥ = omega (arith, c .line-at .ensures) in absurd z
+
+add-at : tie.Need-add-at Inv-loop μ-loop
+add-at c = omega (arith, c .before .agreeing .ensures .inside, c .before .before .before .before .before .before .before .before .before .before .before .before .before .pre)
+
+loop-less : tie.Need-loop-less Inv-loop μ-loop
+loop-less c =
+    let r = c .before .before .before .before .run-some in
+    let t = c .before .before .before .before .before .before in
+    let l = t .before .before .loop in
+    left-falls (l .progress .ended) (r .result .ended) _ _ _ (t .if1 .taken) (r .ensures .headway (l .inv .0) (omega (arith, l .inv .1)))
+
+loop-again : tie.Need-loop-again Inv-loop μ-loop
+loop-again c =
+    let r = c .before .before .before .before .run-some in
+    let l = c .before .before .before .before .before .before .before .before .loop in (
+      r .ensures .usable (l .inv .0),
+      search needs,
+      judging-next (l .inv .2) (r .ensures) (c .before .agreeing .ensures) (c .if2 .left),
+    )
+
+line-at-requires-2 : tie.Need-line-at-requires-2 Inv-loop μ-loop
+line-at-requires-2 c κs = (c .before .before .before .loop .inv .2 .inside, c .before .before .before .before .before .before .before .before .pre)
+
+returns-2 : tie.Need-returns-2 Inv-loop μ-loop
+returns-2 c = λ e. let z : ⊥ = omega (arith, c .line-at2 .ensures) in absurd z
+
+returns-3 : tie.Need-returns-3 Inv-loop μ-loop
+returns-3 c = λ _. judged (c .before .before .before .loop .inv .2) (c .before .if1 .left) (c .if3 .left)
+
+pub first-difference-spec : {M : Type 1} → statement M
+first-difference-spec =
+    tie.close
+    (tie.spec
+    Inv-loop
+    μ-loop
+    large-buffer-requires
+    start-requires
+    loop-holds
+    slice-aggregate-run-some
+    run-some-requires
+    array-share-prefix-out
+    slice-aggregate-agreeing
+    agreeing-requires
+    add-line-at
+    line-at-requires
+    returns
+    add-at
+    loop-less
+    loop-again
+    line-at-requires-2
+    returns-2
+    returns-3)
