@@ -1,0 +1,48 @@
+-- Every turn is one byte of the line.
+use Prim.Native.Nat.{_≤_, _-_}
+use native.Mathlib.Omega.{arith}
+use borrow.Author.Needs.{needs}
+use lib.ListN.{length}
+use Rattle.call_cases.proofs.parse.skip_spaces.Statement.{statement}
+use Rattle.call_cases.proofs.parse.skip_spaces.Tie as tie
+
+abbrev Inv-loop : tie.InvT-loop
+Inv-loop line from at₀ at = from ≤ at
+
+abbrev μ-loop : tie.MeasureT-loop
+μ-loop line from at₀ at = length line - at
+
+loop-holds : tie.Need-loop-holds Inv-loop μ-loop
+loop-holds c = search needs
+
+shared-slice-read-if1 : tie.Need-shared-slice-read-if1 Inv-loop μ-loop
+shared-slice-read-if1 c = omega arith
+
+add-at : tie.Need-add-at Inv-loop μ-loop
+add-at c = omega arith
+
+loop-less : tie.Need-loop-less Inv-loop μ-loop
+loop-less c = omega arith
+
+loop-again : tie.Need-loop-again Inv-loop μ-loop
+loop-again c = omega arith
+
+returns : tie.Need-returns Inv-loop μ-loop
+returns c = search needs
+
+returns-2 : tie.Need-returns-2 Inv-loop μ-loop
+returns-2 c = search needs
+
+pub skip-spaces-spec : {M : Type 1} → statement M
+skip-spaces-spec =
+    tie.close
+    (tie.spec
+    Inv-loop
+    μ-loop
+    loop-holds
+    shared-slice-read-if1
+    add-at
+    loop-less
+    loop-again
+    returns
+    returns-2)
