@@ -1,4 +1,2 @@
 pub mod Words
-pub mod Flags
 pub mod WordLaws
-pub mod FlagLaws

@@ -102,20 +102,32 @@ fn next_state(s: State, line: &[u8], k: Command) -> State {
     }
 }
 
-// A line that starts with # is a comment; so is one with no word.
-pub fn obeyed(bench: Bench, line: &[u8]) -> Bench {
+fn put_aside(bench: Bench) -> Bench {
+    let state = bench.state;
+    Bench { state, kept: state }
+}
+
+fn brought_back(bench: Bench) -> Bench {
+    let kept = bench.kept;
+    Bench { state: kept, kept }
+}
+
+fn moved(bench: Bench, line: &[u8], k: Command) -> Bench {
     let state = bench.state;
     let kept = bench.kept;
+    let next = next_state(state, line, k);
+    Bench { state: next, kept }
+}
+
+// A line that starts with # is a comment; so is one with no word.
+pub fn obeyed(bench: Bench, line: &[u8]) -> Bench {
     let k = parsed(line);
     let name = k.name;
     match name {
         0 => bench,
         0x23 => bench,
-        0x6b656570 => Bench { state, kept: state }, // keep
-        0x6261636b => Bench { state: kept, kept }, // back
-        _ => Bench {
-            state: next_state(state, line, k),
-            kept,
-        },
+        0x6b656570 => put_aside(bench), // keep
+        0x6261636b => brought_back(bench), // back
+        _ => moved(bench, line, k),
     }
 }

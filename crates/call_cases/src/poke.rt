@@ -1,11 +1,12 @@
 // Fields put into a state as no call would put them.
 use model::State;
 use mpu::Mpu;
+use rules::Core;
 use rules::Masks;
 use rules::System;
 use systick::Timer;
 
-// An element of a list, or the depth or the group setting. Past the end nothing is changed.
+// An element of a list. Past the end nothing is changed.
 fn poked_lists(mut s: State, field: u32, i: u32, v: u32) -> State {
     let n = i as usize;
     if 63 <= n {
@@ -18,8 +19,6 @@ fn poked_lists(mut s: State, field: u32, i: u32, v: u32) -> State {
         0x6c657665 => s.level[n] = v == 1, // leve
         0x7072696f => s.priority[n] = bits::byte_of(v, 0), // prio
         0x6e657374 => s.nest[n] = bits::byte_of(v, 0), // nest
-        0x64657074 => s.depth = v as usize, // dept
-        0x67726f75 => s.group = v, // grou
         _ => {}
     }
     s
@@ -72,21 +71,33 @@ fn poked_guard(mut g: Mpu, field: u32, i: u32, v: u32) -> Mpu {
     g
 }
 
-// A field by its first four letters; of a list the element i.
-pub fn poked(s: State, field: u32, i: u32, v: u32) -> State {
-    let mut t = poked_lists(s, field, i, v);
-    let masks = t.masks;
-    let system = t.system;
-    let timer = t.timer;
-    let guard = t.guard;
+fn poked_core(mut c: Core, field: u32, i: u32, v: u32) -> Core {
+    match field {
+        0x64657074 => c.depth = v as usize, // dept
+        0x67726f75 => c.group = v, // grou
+        _ => {}
+    }
+    let masks = c.masks;
+    let system = c.system;
+    let timer = c.timer;
+    let guard = c.guard;
     let next_masks = poked_masks(masks, field, v);
     let next_system = poked_system(system, field, v);
     let next_timer = poked_timer(timer, field, v);
     let next_guard = poked_guard(guard, field, i, v);
-    t.masks = next_masks;
-    t.system = next_system;
-    t.timer = next_timer;
-    t.guard = next_guard;
+    c.masks = next_masks;
+    c.system = next_system;
+    c.timer = next_timer;
+    c.guard = next_guard;
+    c
+}
+
+// A field by its first four letters; of a list the element i.
+pub fn poked(s: State, field: u32, i: u32, v: u32) -> State {
+    let mut t = poked_lists(s, field, i, v);
+    let core = t.core;
+    let next = poked_core(core, field, i, v);
+    t.core = next;
     t
 }
 
@@ -171,6 +182,8 @@ pub fn filled(mut s: State) -> State {
     let nest = ALL;
     s.active = flags;
     s.nest = nest;
-    s.depth = 63;
+    let mut core = s.core;
+    core.depth = 63;
+    s.core = core;
     s
 }

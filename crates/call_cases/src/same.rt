@@ -2,24 +2,47 @@
 ghost use Prim.Native.Nat.{_<_};
 use model::Reply;
 use model::State;
+use mpu::Mpu;
+use rules::Core;
+use rules::Masks;
+use rules::System;
+use systick::Timer;
 
-// Place i of the nest, and region i, where there is one.
+// Place i of the nest, where there is one.
 fn same_place(a: State, b: State, i: usize) -> bool {
     if 63 <= i {
         return true;
     }
-    if a.nest[i] != b.nest[i] {
-        return false;
-    }
+    a.nest[i] == b.nest[i]
+}
+
+// Region i, where there is one.
+fn same_region(g: Mpu, h: Mpu, i: usize) -> bool {
     if 8 <= i {
         return true;
     }
-    let g = a.guard;
-    let h = b.guard;
     if g.bases[i] != h.bases[i] {
         return false;
     }
     g.attributes[i] == h.attributes[i]
+}
+
+fn same_regions(g: Mpu, h: Mpu) -> bool {
+    let mut i = 0;
+    while i < 8 && same_region(g, h, i) {
+        i += 1;
+    }
+    i == 8
+}
+
+fn same_guard(g: Mpu, h: Mpu) -> bool {
+    if g.control != h.control {
+        return false;
+    }
+    if g.region != h.region {
+        return false;
+    }
+    same_regions(g, h)
 }
 
 // The flags and the priority byte of number i too.
@@ -52,9 +75,7 @@ fn same_lists(a: State, b: State) -> bool {
     i == 71
 }
 
-fn same_masks(a: State, b: State) -> bool {
-    let m = a.masks;
-    let n = b.masks;
+fn same_masks(m: Masks, n: Masks) -> bool {
     if m.primask != n.primask {
         return false;
     }
@@ -70,24 +91,7 @@ fn same_masks(a: State, b: State) -> bool {
     m.basepri == n.basepri
 }
 
-fn same_numbers(a: State, b: State) -> bool {
-    let g = a.guard;
-    let h = b.guard;
-    if a.depth != b.depth {
-        return false;
-    }
-    if a.group != b.group {
-        return false;
-    }
-    if g.control != h.control {
-        return false;
-    }
-    g.region == h.region
-}
-
-fn same_timer(a: State, b: State) -> bool {
-    let t = a.timer;
-    let u = b.timer;
+fn same_timer(t: Timer, u: Timer) -> bool {
     if t.control != u.control {
         return false;
     }
@@ -100,9 +104,7 @@ fn same_timer(a: State, b: State) -> bool {
     t.count == u.count
 }
 
-fn same_system(a: State, b: State) -> bool {
-    let x = a.system;
-    let y = b.system;
+fn same_system(x: System, y: System) -> bool {
     if x.vtable != y.vtable {
         return false;
     }
@@ -124,20 +126,35 @@ fn same_system(a: State, b: State) -> bool {
     x.faultaddr == y.faultaddr
 }
 
+fn same_core(a: Core, b: Core) -> bool {
+    if a.depth != b.depth {
+        return false;
+    }
+    if a.group != b.group {
+        return false;
+    }
+    let masks = a.masks;
+    let timer = a.timer;
+    let system = a.system;
+    let guard = a.guard;
+    if !same_masks(masks, b.masks) {
+        return false;
+    }
+    if !same_timer(timer, b.timer) {
+        return false;
+    }
+    if !same_system(system, b.system) {
+        return false;
+    }
+    same_guard(guard, b.guard)
+}
+
 pub fn same_state(a: State, b: State) -> bool {
-    if !same_lists(a, b) {
+    let core = a.core;
+    if !same_core(core, b.core) {
         return false;
     }
-    if !same_numbers(a, b) {
-        return false;
-    }
-    if !same_masks(a, b) {
-        return false;
-    }
-    if !same_timer(a, b) {
-        return false;
-    }
-    same_system(a, b)
+    same_lists(a, b)
 }
 
 pub fn same_reply(a: Reply, b: Reply) -> bool {

@@ -40,7 +40,8 @@ pub fn answer(line: &[u8], before: State, r: Reply, stepped: Reply) {
 
 // PRIMASK, FAULTMASK, BASEPRI, CONTROL bit 0, CONTROL bit 1.
 pub fn masks(line: &[u8], s: State) -> State {
-    let m = s.masks;
+    let core = s.core;
+    let m = core.masks;
     text(line);
     text(b":");
     number(bits::bit_of(m.primask));

@@ -2,7 +2,7 @@
 ghost use mathlib.Core.Path.{_≡_};
 ghost use Prim.Native.Nat.{_*_, _^_, _≤_, _<_};
 ghost use Rattle.bits.specs.Words.{bit};
-ghost use Rattle.bits.specs.Flags.{on};
+ghost use Rattle.flag_words.specs.Flags.{on};
 ghost use Rattle.rules.specs.Reads.{intctrlValue, syshndctrlValue};
 ghost use Rattle.rules.specs.Writes.{setOrClear, intctrlWritten, syshndctrlWritten, apintWritten, swtrigWritten};
 ghost use Rattle.control.specs.Shown.{enablesShown, pendingsShown, activesShown};
@@ -35,7 +35,7 @@ pub fn intctrl_value(pending: &[bool], depth: usize, top: u32) -> u32
     shown(pending, 2, 0x80000000)
         + shown(pending, 14, 0x10000000)
         + shown(pending, 15, 0x4000000)
-        + weighed(bits::any_flag(pending, 16), 0x400000)
+        + weighed(flag_words::any_flag(pending, 16), 0x400000)
         + weighed(depth < 2, 0x800)
         + top
 }

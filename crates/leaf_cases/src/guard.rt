@@ -1,9 +1,10 @@
 // Crate mpu: its registers and its verdicts.
 use super::show::four;
 use super::show::two;
-use mpu::Access;
 use mpu::Mpu;
 use mpu::MpuRegister;
+use verdicts::Access;
+use verdicts::verdict;
 
 // Enabled, region 0 at 0x20000000 with these attributes.
 fn region(attributes: u32) -> Mpu {
@@ -15,11 +16,11 @@ fn region(attributes: u32) -> Mpu {
 
 // Unprivileged, at a priority that is not negative.
 fn read(m: Mpu, address: u32) -> u32 {
-    m.verdict(Access::Read, address, false, false)
+    verdict(m, Access::Read, address, false, false)
 }
 
 fn fetch(m: Mpu, address: u32) -> u32 {
-    m.verdict(Access::Fetch, address, false, false)
+    verdict(m, Access::Fetch, address, false, false)
 }
 
 fn matching() {
@@ -55,10 +56,10 @@ fn row(label: &[u8], attributes: u32) {
     let m = region(attributes);
     four(
         label,
-        m.verdict(Access::Read, 0x20000000, true, false),
-        m.verdict(Access::Write, 0x20000000, true, false),
-        m.verdict(Access::Read, 0x20000000, false, false),
-        m.verdict(Access::Write, 0x20000000, false, false),
+        verdict(m, Access::Read, 0x20000000, true, false),
+        verdict(m, Access::Write, 0x20000000, true, false),
+        verdict(m, Access::Read, 0x20000000, false, false),
+        verdict(m, Access::Write, 0x20000000, false, false),
     );
 }
 
@@ -108,10 +109,10 @@ fn deciding() {
     let background = off.write(MpuRegister::Control, 5);
     four(
         b"no region, read at a negative priority with ED94 = 1, 3; ED94 = 5, privileged, not",
-        on.verdict(Access::Read, 0, false, true),
-        hfnmi.verdict(Access::Read, 0, false, true),
-        background.verdict(Access::Read, 0, true, false),
-        background.verdict(Access::Read, 0, false, false),
+        verdict(on, Access::Read, 0, false, true),
+        verdict(hfnmi, Access::Read, 0, false, true),
+        verdict(background, Access::Read, 0, true, false),
+        verdict(background, Access::Read, 0, false, false),
     );
 }
 

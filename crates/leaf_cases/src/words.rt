@@ -35,20 +35,20 @@ fn flags() {
     let all = [true; 71];
     four(
         b"all flags set, read from 16, 48, 71, 1000",
-        bits::flags_word(&all, 16),
-        bits::flags_word(&all, 48),
-        bits::flags_word(&all, 71),
-        bits::flags_word(&all, 1000),
+        flag_words::flags_word(&all, 16),
+        flag_words::flags_word(&all, 48),
+        flag_words::flags_word(&all, 71),
+        flag_words::flags_word(&all, 1000),
     );
     let mut some = [false; 71];
-    bits::set_flags(&mut some, 48, 0xffffffff);
-    bits::clear_flags(&mut some, 48, 0xfffffffd);
+    flag_words::set_flags(&mut some, 48, 0xffffffff);
+    flag_words::clear_flags(&mut some, 48, 0xfffffffd);
     four(
         b"ones written from 48 on, all but 49 cleared: from 48, 16; any from 49, 50",
-        bits::flags_word(&some, 48),
-        bits::flags_word(&some, 16),
-        bit_of(bits::any_flag(&some, 49)),
-        bit_of(bits::any_flag(&some, 50)),
+        flag_words::flags_word(&some, 48),
+        flag_words::flags_word(&some, 16),
+        bit_of(flag_words::any_flag(&some, 49)),
+        bit_of(flag_words::any_flag(&some, 50)),
     );
 }
 

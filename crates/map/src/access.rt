@@ -5,8 +5,8 @@ ghost use lib.Dec.{eqb};
 ghost use Rattle.rules.specs.Registers.{isWidth, accessRefusal, laneOf};
 ghost use Rattle.rules.specs.Step.{purposeOf, fitsAccess};
 use super::width_refusal;
-use mpu::Access;
 use rules::Register;
+use verdicts::Access;
 
 pub fn is_width(w: u32) -> bool
     ensures { λ r. ⌜ r ≡ isWidth w ⌝ }

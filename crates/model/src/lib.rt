@@ -1,27 +1,17 @@
 // The state by value of the chip with 55 lines, and the calls on it. Each call hands back its answer with the next state.
 ghost use mathlib.Core.Path.{_≡_};
-ghost use Prim.Native.Nat.{_<_};
 ghost use Rattle.rules.specs.Chip.{chip55};
-ghost use Rattle.rules.specs.Model.{fresh, refuse, done, stack, top};
-ghost use Rattle.rules.specs.Priorities.{privileged};
-ghost use Rattle.rules.specs.Events.{pend};
-ghost use Rattle.model.specs.View.{model, state, reply};
-use mpu::Mpu;
+ghost use Rattle.rules.specs.Model.{fresh, stack, top};
+ghost use Rattle.rules.specs.Priorities.{execution};
+ghost use Rattle.rules.specs.Sound.{isSound};
+ghost use Rattle.model.specs.View.{model, state};
 use rules::Chip;
-use rules::Masks;
-use rules::System;
-use systick::Timer;
+use rules::Core;
 
-pub mod access;
 pub mod calls;
-pub mod events;
-pub mod faults;
-pub mod nesting;
-pub mod read;
-pub mod sound;
-pub mod write;
 
-// Flags and priority bytes stand at exception numbers; the nest holds the active exceptions, the newest last.
+// Flags and priority bytes stand at exception numbers; the nest holds the active exceptions, the newest last. `core` has its depth and
+// every part that holds no array of the chip's size.
 pub struct State {
     pub pending: [bool; 71],
     pub active: [bool; 71],
@@ -29,12 +19,7 @@ pub struct State {
     pub level: [bool; 71],
     pub priority: [u8; 71],
     pub nest: [u8; 63],
-    pub depth: usize,
-    pub group: u32,
-    pub masks: Masks,
-    pub timer: Timer,
-    pub guard: Mpu,
-    pub system: System,
+    pub core: Core,
 }
 
 // An answer: the refusal or 0, the value, the vector address and link value of an entry, and the next state.
@@ -60,50 +45,7 @@ impl State {
             level: [false; 71],
             priority: [0; 71],
             nest: [0; 63],
-            depth: 0,
-            group: 0,
-            masks: Masks {
-                primask: false,
-                faultmask: false,
-                basepri: 0,
-                npriv: false,
-                spsel: false,
-            },
-            timer: Timer::fresh(),
-            guard: Mpu::fresh(),
-            system: System {
-                vtable: 0,
-                sysctrl: 0,
-                cfgctrl: 0x200,
-                faultstat: 0,
-                hfaultstat: 0,
-                mmaddr: 0,
-                faultaddr: 0,
-            },
-        }
-    }
-
-    pub(crate) fn refuse(self, number: u32) -> Reply
-        ensures { λ r. ⌜ r ≡ reply (refuse number (model self)) ⌝ }
-    {
-        Reply {
-            refusal: number,
-            value: 0,
-            vector: 0,
-            link: 0,
-            state: self,
-        }
-    }
-
-    pub(crate) fn done(self, value: u32) -> Reply
-        ensures { λ r. ⌜ r ≡ reply (done value (model self)) ⌝ }
-    {
-        Reply {
-            refusal: 0,
-            value,
-            vector: 0,
-            link: 0,
-            state: self,
+            core: outcome::fresh_core(),
         }
     }
 
@@ -112,32 +54,56 @@ impl State {
         ensures { λ r. ⌜ r ≡ top (stack (model self)) ⌝ }
     {
         let nest = self.nest;
-        nvic::nest::top_of(&nest, self.depth)
+        let core = self.core;
+        nvic::nest::top_of(&nest, core.depth)
     }
 
     // How many exceptions are nested.
     pub fn depth(self) -> usize
         ensures { λ r. ⌜ r ≡ model self .depth ⌝ }
     {
-        self.depth
+        let core = self.core;
+        core.depth
     }
 
-    pub(crate) fn privileged(self) -> bool
-        ensures { λ r. ⌜ r ≡ privileged (model self) ⌝ }
+    // For every state, sound or not, by a scan over all flags.
+    pub fn execution_priority(self) -> i32
+        ensures { λ r. ⌜ r ≡ execution (model self) ⌝ }
     {
-        let masks = self.masks;
-        if masks.npriv {
-            return 0 < self.depth;
-        }
-        true
+        let active = self.active;
+        let bytes = self.priority;
+        let core = self.core;
+        let masks = core.masks;
+        priority::execution_priority(
+            &active,
+            &bytes,
+            core.group,
+            masks.basepri,
+            masks.primask,
+            masks.faultmask,
+        )
     }
 
-    // The callers give the number of an exception that exists.
-    pub(crate) fn pend(mut self, n: usize) -> Self
-        requires { ⌜ n < 71 ⌝ }
-        ensures { λ r. ⌜ r ≡ state (pend n (model self)) ⌝ }
+    // The test of refusal 16.
+    pub fn is_sound(self) -> bool
+        ensures { λ r. ⌜ r ≡ isSound chip55 (model self) ⌝ }
     {
-        self.pending[n] = true;
-        self
+        let pending = self.pending;
+        let active = self.active;
+        let enabled = self.enabled;
+        let level = self.level;
+        let priority = self.priority;
+        let nest = self.nest;
+        let core = self.core;
+        sound_state::is_sound(
+            CHIP,
+            &pending,
+            &active,
+            &enabled,
+            &level,
+            &priority,
+            &nest,
+            core,
+        )
     }
 }

@@ -1,7 +1,6 @@
 -- The machine's mask keeps the fields that the definition sums.
 use Prim.Native.Nat.{ℕ, _+_, _*_, _/_, _%_, _^_}
 use mathlib.Core.Path.{_≡_, refl, sym, _∙_}
-use mathlib.Core.Bool.{Bool, true, false, cond}
 use native.Mathlib.Omega.{arith}
 use lib.Bits.{bitAnd, and-shr, and-mod, and-mask}
 use lib.Pow.{split}
@@ -27,10 +26,3 @@ attribute-mask x =
     let c = and-mask (z / 2 ^ 8) 14 in
     let d = and-mask (z % 2 ^ 8) 6 in
     omega arith
-
--- a choice, once the test is known
-pub taken : {A : Type 0} (b : Bool) (x y : A) → b ≡ true → x ≡ cond b x y
-taken b x y e = rw e refl
-
-pub left : {A : Type 0} (b : Bool) (x y : A) → b ≡ false → y ≡ cond b x y
-left b x y e = rw e refl

@@ -1,17 +1,8 @@
-// The MPU, a guard of eight regions: its registers, and its verdict on an access.
+// The MPU, a guard of eight regions, and its registers. What it allows is in `verdicts`.
 ghost use mathlib.Core.Path.{_≡_};
 ghost use lib.ListN.{length, getD, set};
 ghost use Rattle.mpu.specs.Registers.{freshMpu, mpuRegisterAt, keptBase, keptAttributes, readMpu, withControl, writeNumber, withBase, writeBase, withAttributes, writeMpu};
 ghost use Rattle.mpu.specs.Soundness.{both, allBelow, regionKept, soundMpu};
-ghost use Rattle.mpu.specs.Verdict.{permits, verdict};
-use regions::background;
-use regions::default_allows;
-use regions::default_decides;
-use regions::fault_of;
-use regions::regions_allow;
-use regions::system_fetch;
-
-mod regions;
 
 // The registers' words; a base without its low five bits.
 pub struct Mpu {
@@ -30,21 +21,6 @@ pub enum MpuRegister {
     Attributes,
     Missing,
 }
-
-pub enum Access {
-    Read,
-    Write,
-    Fetch,
-}
-
-// What a region's AP gives to privileged accesses, or to the others.
-pub struct Rights {
-    pub read: bool,
-    pub write: bool,
-}
-
-// The rights of privileged accesses, then of the others.
-pub struct Row(pub Rights, pub Rights);
 
 // The register at a byte offset from 0xE000ED90.
 pub fn register_at(offset: u32) -> MpuRegister
@@ -221,31 +197,5 @@ impl Mpu {
             MpuRegister::Attributes => self.write_attributes(x),
             MpuRegister::Missing => self,
         }
-    }
-
-    fn permits(self, access: Access, address: u32, privileged: bool, negative: bool) -> bool
-        ensures { λ r. ⌜ r ≡ permits self access address privileged negative ⌝ }
-    {
-        let control = self.control;
-        let bases = self.bases;
-        let attributes = self.attributes;
-        if system_fetch(access, address) {
-            return false;
-        }
-        if default_decides(control, address, negative) {
-            return default_allows(access, address);
-        }
-        let otherwise = background(control, access, address, privileged);
-        regions_allow(&bases, &attributes, access, address, privileged, otherwise)
-    }
-
-    // 0 allowed, 1 data fault, 2 fetch fault; `negative` is whether the execution priority is below 0.
-    pub fn verdict(self, access: Access, address: u32, privileged: bool, negative: bool) -> u32
-        ensures { λ r. ⌜ r ≡ verdict self access address privileged negative ⌝ }
-    {
-        if self.permits(access, address, privileged, negative) {
-            return 0;
-        }
-        fault_of(access)
     }
 }

@@ -5,8 +5,8 @@ ghost use lib.ListN.{getD, set};
 ghost use Rattle.bits.specs.Words.{byteAt};
 ghost use Rattle.rules.specs.Reads.{bytesValue};
 ghost use Rattle.rules.specs.Writes.{withByte, withBytes};
+use exceptions::has_byte;
 use rules::Chip;
-use soundness::has_byte;
 
 // Byte n + k.
 fn byte_after(priority: &[u8], n: usize, k: usize) -> u8
@@ -32,7 +32,7 @@ pub fn bytes_value(priority: &[u8], n: usize) -> u32
     )
 }
 
-fn store_byte(priority: &mut [u8], n: usize, b: u8)
+pub fn store_byte(priority: &mut [u8], n: usize, b: u8)
     ensures { λ _. ⌜ now (priority .exit) ≡ set (now (priority .entry)) n b ⌝ }
 {
     if n < priority.len() {
@@ -50,25 +50,33 @@ pub fn put_byte(priority: &mut [u8], chip: Chip, n: usize, b: u32)
     }
 }
 
-// Byte k of v at n + k.
-fn put_byte_after(priority: &mut [u8], chip: Chip, n: usize, k: u32, v: u32)
-    requires { ⌜ (chip .bits ≤ 8) × (k < 4) ⌝ }
-    ensures { λ _. ⌜ now (priority .exit) ≡ withByte chip (n + k) (byteAt k v) (now (priority .entry)) ⌝ }
+// The same at n + lane.
+pub fn put_byte_after(priority: &mut [u8], chip: Chip, n: usize, lane: u32, b: u32)
+    requires { ⌜ (chip .bits ≤ 8) × (lane < 4) ⌝ }
+    ensures { λ _. ⌜ now (priority .exit) ≡ withByte chip (n + lane) b (now (priority .entry)) ⌝ }
 {
-    let lane = k as usize;
+    let k = lane as usize;
     if n < priority.len() {
-        if lane < priority.len() - n {
-            put_byte(priority, chip, n + lane, bits::wide(bits::byte_of(v, k)));
+        if k < priority.len() - n {
+            put_byte(priority, chip, n + k, b);
         }
     }
+}
+
+// Byte `lane` of v at n + lane.
+fn put_lane(priority: &mut [u8], chip: Chip, n: usize, lane: u32, v: u32)
+    requires { ⌜ (chip .bits ≤ 8) × (lane < 4) ⌝ }
+    ensures { λ _. ⌜ now (priority .exit) ≡ withByte chip (n + lane) (byteAt lane v) (now (priority .entry)) ⌝ }
+{
+    put_byte_after(priority, chip, n, lane, bits::wide(bits::byte_of(v, lane)));
 }
 
 pub fn put_bytes(priority: &mut [u8], chip: Chip, n: usize, v: u32)
     requires { ⌜ chip .bits ≤ 8 ⌝ }
     ensures { λ _. ⌜ now (priority .exit) ≡ withBytes chip n v (now (priority .entry)) ⌝ }
 {
-    put_byte_after(priority, chip, n, 0, v);
-    put_byte_after(priority, chip, n, 1, v);
-    put_byte_after(priority, chip, n, 2, v);
-    put_byte_after(priority, chip, n, 3, v);
+    put_lane(priority, chip, n, 0, v);
+    put_lane(priority, chip, n, 1, v);
+    put_lane(priority, chip, n, 2, v);
+    put_lane(priority, chip, n, 3, v);
 }

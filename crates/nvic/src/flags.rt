@@ -1,7 +1,7 @@
 // Flags: one read or stored, and pending cleared by a word. Past the end a flag reads as clear and takes nothing.
 ghost use mathlib.Core.Path.{_≡_};
 ghost use lib.ListN.{set};
-ghost use Rattle.bits.specs.Flags.{on, clearFlags};
+ghost use Rattle.flag_words.specs.Flags.{on, clearFlags};
 ghost use Rattle.rules.specs.Writes.{clearable};
 
 pub fn flag_at(flags: &[bool], n: usize) -> bool
@@ -25,6 +25,9 @@ pub fn store_flag(flags: &mut [bool], n: usize, value: bool)
 pub fn clear_pending(pending: &mut [bool], level: &[bool], active: &[bool], n: usize, v: u32)
     ensures { λ _. ⌜ now (pending .exit) ≡ clearFlags (now (pending .entry)) n (clearable (now (level .entry)) (now (active .entry)) n v) ⌝ }
 {
-    let held = bits::clear_ones(bits::flags_word(level, n), bits::flags_word(active, n));
-    bits::clear_flags(pending, n, bits::clear_ones(v, held));
+    let held = bits::clear_ones(
+        flag_words::flags_word(level, n),
+        flag_words::flags_word(active, n),
+    );
+    flag_words::clear_flags(pending, n, bits::clear_ones(v, held));
 }

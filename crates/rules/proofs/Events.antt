@@ -5,7 +5,7 @@ use mathlib.Core.List.{[], _∷_}
 use mathlib.Core.Bool.{Bool, true, false, not, _&&_, _||_}
 use native.Mathlib.Omega.{arith}
 use lib.Dec.{T, ltb, leb, eqb, nleb→lt}
-use Rattle.bits.specs.Flags.{on}
+use Rattle.flag_words.specs.Flags.{on}
 use Rattle.bits.specs.Words.{bitAt, withBit}
 use Rattle.priority.specs.Priority.{keptByte}
 use Rattle.priority.specs.Order.{by-cases}

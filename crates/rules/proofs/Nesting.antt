@@ -8,7 +8,7 @@ use native.Mathlib.Omega.{arith}
 use lib.ListN.{getD, set}
 use lib.Dec.{T, ltb, eqb, ltb→lt, eqb→eq}
 use lib.Signed.{_≤ℤ_, _<ℤ_, <ℤ-≤ℤ-trans, clashℤ}
-use Rattle.bits.specs.Flags.{on}
+use Rattle.flag_words.specs.Flags.{on}
 use Rattle.priority.specs.declared.Found.the-variants.{At}
 use Rattle.priority.specs.Priority.{keptByte, executionNested}
 use Rattle.priority.specs.Order.{both, either, by-cases, Rising}
@@ -27,6 +27,15 @@ use Rattle.rules.proofs.Exceptions.{line-stands, stands-below, fits}
 use Rattle.rules.proofs.Parts.{flags-set, down-length, down-push, down-top, down-pop, down-place, place-down, places-push, places-pop, nested-push, nested-pop}
 use Rattle.rules.proofs.Check.{depth-fits}
 use Rattle.rules.proofs.Quiet.{stay, pend-quiet}
+
+-- a link value that fits has something to return from
+pub link-deep : (depth v : ℕ) → T (linkFits depth v) → 0 < depth
+unfolding linkFits
+link-deep depth v t = go (either (eqb v 0xFFFFFFF1 && ltb 1 depth) ((eqb v 0xFFFFFFF9 || eqb v 0xFFFFFFFD) && eqb depth 1) t)
+  where
+    go : T (eqb v 0xFFFFFFF1 && ltb 1 depth) ⊎ T ((eqb v 0xFFFFFFF9 || eqb v 0xFFFFFFFD) && eqb depth 1) → 0 < depth
+    go (inl p) = let l = ltb→lt 1 depth (both (eqb v 0xFFFFFFF1) (ltb 1 depth) p .1) in omega arith
+    go (inr p) = let l = eqb→eq depth 1 (both (eqb v 0xFFFFFFF9 || eqb v 0xFFFFFFFD) (eqb depth 1) p .1) in omega arith
 
 module _ {c : Chip} {m : Model} (h : Sound c m) where
   pub execution-below : (n : ℕ) → T (on (m .active) n) → execution m ≤ℤ groupNumber m n
@@ -107,14 +116,6 @@ module _ {c : Chip} {m : Model} (h : Sound c m) where
       (stands-below c n Exception (pending-exists n (a .pends) (a .below)), room n (a .pends) (a .below))
 
   -- ---- return
-
-  pub link-deep : (v : ℕ) → T (linkFits (m .depth) v) → 0 < m .depth
-  unfolding linkFits
-  link-deep v t = go (either (eqb v 0xFFFFFFF1 && ltb 1 (m .depth)) ((eqb v 0xFFFFFFF9 || eqb v 0xFFFFFFFD) && eqb (m .depth) 1) t)
-    where
-      go : T (eqb v 0xFFFFFFF1 && ltb 1 (m .depth)) ⊎ T ((eqb v 0xFFFFFFF9 || eqb v 0xFFFFFFFD) && eqb (m .depth) 1) → 0 < m .depth
-      go (inl p) = let l = ltb→lt 1 (m .depth) (both (eqb v 0xFFFFFFF1) (ltb 1 (m .depth)) p .1) in omega arith
-      go (inr p) = let l = eqb→eq (m .depth) 1 (both (eqb v 0xFFFFFFF9 || eqb v 0xFFFFFFFD) (eqb (m .depth) 1) p .1) in omega arith
 
   pub top-active : 0 < m .depth → T (on (m .active) (top (stack m)))
   top-active l =

@@ -11,8 +11,8 @@ use lib.Seq.{getD-set-same, getD-set-other}
 use lib.Dec.{T, eqb}
 use lib.IntN.{ℤ}
 use borrow.Author.Tests.{eqb-true, eqb-false}
-use Rattle.bits.specs.Flags.{on, putFlags}
-use Rattle.bits.specs.FlagLaws.{length-put-flags, Named, put-on}
+use Rattle.flag_words.specs.Flags.{on, putFlags}
+use Rattle.flag_words.specs.FlagLaws.{length-put-flags, Named, put-on}
 use Rattle.priority.specs.Priority.{keptByte}
 use Rattle.priority.specs.Order.{below-suc, Rising}
 use Rattle.priority.specs.Levels.{Kept, kept-byte, kept-same}

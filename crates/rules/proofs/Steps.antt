@@ -67,7 +67,7 @@ module _ {c : Chip} {m : Model} (h : Sound c m) where
   unfolding returnCall
   return-ok v =
       by-cases (Step c m (event.Return v)) (linkFits (m .depth) v)
-      (λ t. let p = returned-popped h v (link-deep h v t) in
+      (λ t. let p = returned-popped h v (link-deep (m .depth) v t) in
       record { sound = p .sound; recorded = sym (p .stacked); rising = λ _ r. lowered p r })
       (λ _. quiet (event.Return v) refl (stay h))
     where

@@ -2,11 +2,11 @@
 use mathlib.Core.Path.{refl}
 use Rattle.rules.specs.Table.{Holds, starred, further, currents, printed}
 use Rattle.bits.specs.Words as bits
-use Rattle.bits.specs.Flags as flags
+use Rattle.flag_words.specs.Flags as flags
 use Rattle.priority.specs.Priority as priority
 use Rattle.systick.specs.Timer as timer
 use Rattle.mpu.specs.Registers as mpu
-use Rattle.mpu.specs.Verdict as verdicts
+use Rattle.verdicts.specs.Verdict as verdicts
 use Rattle.mpu.specs.Soundness as guard
 use Rattle.frame.specs.Frame as frames
 use Rattle.script.specs.Event as script

@@ -5,7 +5,7 @@ use mathlib.Core.Bool.{Bool, true, not, cond, _&&_, _||_}
 use lib.ListN.{set}
 use lib.Dec.{ltb, leb, eqb}
 use lib.Signed.{ltZ}
-use Rattle.bits.specs.Flags.{on}
+use Rattle.flag_words.specs.Flags.{on}
 use Rattle.bits.specs.Words.{bit, bitAt, withBit}
 use Rattle.priority.specs.Priority.{keptByte}
 use Rattle.priority.specs.declared.Found.{Found}

@@ -9,5 +9,6 @@ pub mod Reads
 pub mod Writes
 pub mod Registers
 pub mod Step
+pub mod Lent
 pub mod Demand3
 pub mod Table

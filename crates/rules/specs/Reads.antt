@@ -4,7 +4,7 @@ use mathlib.Core.List.{List}
 use mathlib.Core.Bool.{Bool}
 use lib.ListN.{getD}
 use lib.Dec.{ltb}
-use Rattle.bits.specs.Flags.{on, flagsWord, anyFlag}
+use Rattle.flag_words.specs.Flags.{on, flagsWord, anyFlag}
 use Rattle.bits.specs.Words.{bit, wordOfBytes}
 use Rattle.systick.specs.declared.Timer.{Timer}
 use Rattle.systick.specs.Timer.{readControl, readReload, readCurrent}

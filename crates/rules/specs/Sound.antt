@@ -6,7 +6,7 @@ use mathlib.Core.List.{List, [], _∷_, List·Memᴰ}
 use mathlib.Core.Bool.{Bool, true, not, _&&_, _||_}
 use lib.ListN.{length, getD}
 use lib.Dec.{T, ltb, leb, eqb}
-use Rattle.bits.specs.Flags.{on}
+use Rattle.flag_words.specs.Flags.{on}
 use Rattle.bits.specs.Words.{kept}
 use Rattle.priority.specs.Order.{Distinct}
 use Rattle.priority.specs.Priority.{keptByte}

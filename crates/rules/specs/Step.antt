@@ -3,9 +3,9 @@ use Prim.Native.Nat.{ℕ, _%_}
 use mathlib.Core.List.{List, [], _∷_}
 use mathlib.Core.Bool.{Bool, not, cond}
 use lib.Dec.{ltb, eqb}
-use Rattle.mpu.specs.declared.Access.{Access}
-use Rattle.mpu.specs.declared.Access.the-variants as access
-use Rattle.mpu.specs.Verdict.{verdict}
+use Rattle.verdicts.specs.declared.Access.{Access}
+use Rattle.verdicts.specs.declared.Access.the-variants as access
+use Rattle.verdicts.specs.Verdict.{verdict}
 use Rattle.script.specs.declared.Event.{Event}
 use Rattle.script.specs.declared.Event.the-variants as event
 use Rattle.script.specs.Event.{accessNumber}

@@ -4,7 +4,7 @@ use mathlib.Core.List.{List}
 use mathlib.Core.Bool.{Bool, true, false, cond}
 use lib.ListN.{set}
 use lib.Dec.{ltb, eqb}
-use Rattle.bits.specs.Flags.{flagsWord, setFlags, clearFlags}
+use Rattle.flag_words.specs.Flags.{flagsWord, setFlags, clearFlags}
 use Rattle.bits.specs.Words.{field, bitAt, without, byteAt}
 use Rattle.priority.specs.Priority.{keptByte}
 use Rattle.systick.specs.declared.Timer.{Timer}

@@ -1,6 +1,8 @@
 // What the rules and the code of every chip share: the chip itself, the parts of the state that hold no array, and the names of the
 // registers.
+use mpu::Mpu;
 use mpu::MpuRegister;
+use systick::Timer;
 
 // A chip: how many lines it has, and how many bits of a priority byte it keeps.
 pub struct Chip {
@@ -33,6 +35,26 @@ pub struct System {
     pub hfaultstat: u32,
     pub mmaddr: u32,
     pub faultaddr: u32,
+}
+
+// The parts of a state that hold no array of the chip's size: the same struct for every chip.
+pub struct Core {
+    pub depth: usize,
+    pub group: u32,
+    pub masks: Masks,
+    pub timer: Timer,
+    pub guard: Mpu,
+    pub system: System,
+}
+
+// What a call answers beside the lists that it was lent: the refusal or 0, the value, the vector address and link value of an
+// entry, and the other parts as it leaves them.
+pub struct Outcome {
+    pub refusal: u32,
+    pub value: u32,
+    pub vector: u32,
+    pub link: u32,
+    pub core: Core,
 }
 
 pub enum TimerRegister {

@@ -12,16 +12,14 @@ use Rattle.decimal.specs.Written.{written, written-length, Puts}
 use Rattle.script.specs.declared.Event.{Event}
 use Rattle.script.specs.declared.ReadEvent.the-variants.{Found}
 use Rattle.script.specs.EventLaws.{event-read}
-use Rattle.script.specs.NumberLaws.{Bytes}
+use Rattle.numbers.specs.NumberLaws.{Bytes}
 use Rattle.script.specs.Reading.{readEvent}
 use Rattle.rules.specs.Chip.{chip55}
-use Rattle.rules.specs.Model.{Model, stack, top}
+use Rattle.rules.specs.Model.{Model, Answer, stack, top}
 use Rattle.rules.specs.Priorities.{execution}
 use Rattle.rules.specs.Sound.{Sound}
 use Rattle.rules.specs.Step.{actOf}
 use Rattle.rules.proofs.Steps.{act-sound}
-use Rattle.model.specs.declared.Reply.{Reply}
-use Rattle.model.specs.View.{model, reply}
 use Rattle.run.specs.Text.{lineOf}
 use Rattle.run.specs.Running.{restText}
 use Rattle.run.proofs.Laws.{rest-found}
@@ -78,7 +76,7 @@ going-first script m at events old s h = record {
 
 module _ {script : List ℕ} {m₀ : Model} {at₀ events₀ : ℕ} {old new : List ℕ} (short : length script ≤ 65536) (small : Bytes script) where
   -- one event: a is its answer, t and x the top and the execution priority after it
-  pub going-next : {m : Model} {at events wrote : ℕ} → Going script m₀ at₀ events₀ old new m at events wrote → (e : Event) (next : ℕ) → readEvent script at ≡ Found e next → (a : Reply) → a ≡ reply (actOf chip55 m e) → (t : ℕ) → t ≡ top (stack (model (a .state))) → (x : ℤ) → x ≡ execution (model (a .state)) → (after : ℕ) (newer : List ℕ) → Puts wrote (lineText (events + 1) (a .refusal) (a .value) t x) new after newer → after ≤ length new → Going script m₀ at₀ events₀ old newer (model (a .state)) next (events + 1) after
+  pub going-next : {m : Model} {at events wrote : ℕ} → Going script m₀ at₀ events₀ old new m at events wrote → (e : Event) (next : ℕ) → readEvent script at ≡ Found e next → (a : Answer) → a ≡ actOf chip55 m e → (t : ℕ) → t ≡ top (stack (a .next)) → (x : ℤ) → x ≡ execution (a .next) → (after : ℕ) (newer : List ℕ) → Puts wrote (lineText (events + 1) (a .refusal) (a .value) t x) new after newer → after ≤ length new → Going script m₀ at₀ events₀ old newer (a .next) next (events + 1) after
   unfolding lineOf
   going-next {m} {at} {events} {wrote} g e next p a q t tq x xq after newer w h =
       let r = event-read script at e next small p in
@@ -87,7 +85,7 @@ module _ {script : List ℕ} {m₀ : Model} {at₀ events₀ : ℕ} {old new : L
       let c = g .counted in
       let l = puts-length (g .within) w h in
       let b = w .next-is in
-      let step : restText chip55 script m at events ≡ lineText (events + 1) (a .refusal) (a .value) t x ++ restText chip55 script (model (a .state)) next (events + 1)
+      let step : restText chip55 script m at events ≡ lineText (events + 1) (a .refusal) (a .value) t x ++ restText chip55 script (a .next) next (events + 1)
       = rw (tq, xq, q, add-one) (rest-found script short chip55 m at events small e next (g .sound) p) in
       record {
         told = rw (puts-take (g .within) w, append-assoc, ← step) (g .told);

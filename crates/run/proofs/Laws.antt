@@ -10,7 +10,7 @@ use Rattle.script.specs.declared.Event.{Event}
 use Rattle.script.specs.declared.ReadEvent.{ReadEvent}
 use Rattle.script.specs.declared.ReadEvent.the-variants.{Found, Refused}
 use Rattle.script.specs.EventLaws.{event-read}
-use Rattle.script.specs.NumberLaws.{Bytes}
+use Rattle.numbers.specs.NumberLaws.{Bytes}
 use Rattle.script.specs.Reading.{readEvent}
 use Rattle.script.specs.Script.{whole, brokenBy, followed, scriptFrom}
 use Rattle.rules.specs.declared.Chip.{Chip}

@@ -3,7 +3,7 @@ use mathlib.Core.Path.{_≡_, refl}
 use mathlib.Core.List.{[], _∷_, _++_}
 use Rattle.decimal.specs.Decimal.{digitsUpTo, digits, brokenText, scriptWord, atWord, newline}
 use Rattle.script.specs.Event.{arity}
-use Rattle.script.specs.Number.{joined, groupsAt, numberAt}
+use Rattle.numbers.specs.Number.{joined, groupsAt, numberAt}
 use Rattle.script.specs.Reading.{numbersAt, eventOf, withArguments, withKind, readEvent}
 use Rattle.script.specs.Script.{followed, scriptFrom, scriptOf}
 use Rattle.rules.specs.Chip.{chip55}

@@ -7,7 +7,7 @@ ghost use lib.ListN.{length};
 ghost use Rattle.rules.specs.Chip.{chip55};
 ghost use Rattle.run.specs.Text.{textOf};
 ghost use Rattle.run.specs.Running.{restOf, started, unmoved, finished, isUsable, Usable, Ready, Stuck, Closed, Ran};
-use model::Reply;
+use model::CHIP;
 use model::State;
 use script::ReadEvent;
 
@@ -79,27 +79,36 @@ fn close(script: &[u8], p: Progress, number: u32, out: &mut [u8]) -> Progress
     finished(p, decimal::put_broken(out, p.wrote, number, p.at as u32))
 }
 
-// The state is not tested at each event: a sound state is sound after any event (`act-sound` of the rules). The last reply is kept,
-// so that no state is copied between calls.
+// The state is not tested at each event: a sound state is sound after any event (`act-sound` of the rules). Its arrays are lent to
+// each event, and the execution priority that a line prints is the one that the next event goes by.
 fn run_events(script: &[u8], progress: Progress, out: &mut [u8]) -> Progress
     requires { ⌜ Ready (now script) progress ⌝ }
     ensures { λ r. ⌜ Ran (now (script .entry)) progress (now (out .entry)) r (now (out .exit)) ⌝ }
 {
     let state = progress.state;
-    let mut reply = Reply {
-        refusal: 0,
-        value: 0,
-        vector: 0,
-        link: 0,
-        state,
-    };
+    let mut pending = state.pending;
+    let mut active = state.active;
+    let mut enabled = state.enabled;
+    let mut level = state.level;
+    let mut priority = state.priority;
+    let mut nest = state.nest;
+    let mut core = state.core;
+    let mut limit = sound_state::execution(&priority, &nest, core);
     let mut at = progress.at;
     let mut events = progress.events;
     let mut wrote = 0;
     while LINE_ROOM <= out.len() - wrote {
         match script::read_event(script, at) {
             ReadEvent::Refused(number) => {
-                let state = reply.state;
+                let state = State {
+                    pending,
+                    active,
+                    enabled,
+                    level,
+                    priority,
+                    nest,
+                    core,
+                };
                 let p = Progress {
                     state,
                     at,
@@ -110,22 +119,44 @@ fn run_events(script: &[u8], progress: Progress, out: &mut [u8]) -> Progress
                 return close(script, p, number, out);
             }
             ReadEvent::Found(event, next) => {
-                reply = reply.state.act(event);
+                let outcome = step::act(
+                    CHIP,
+                    &mut pending,
+                    &mut active,
+                    &mut enabled,
+                    &mut level,
+                    &mut priority,
+                    &mut nest,
+                    core,
+                    limit,
+                    event,
+                );
+                let left = outcome.core;
+                core = left;
+                limit = sound_state::execution(&priority, &nest, core);
                 at = next;
                 events += 1;
                 wrote = decimal::put_line(
                     out,
                     wrote,
                     events,
-                    reply.refusal,
-                    reply.value,
-                    reply.state.top(),
-                    reply.state.execution(),
+                    outcome.refusal,
+                    outcome.value,
+                    nvic::nest::top_of(&nest, core.depth),
+                    limit,
                 );
             }
         }
     }
-    let state = reply.state;
+    let state = State {
+        pending,
+        active,
+        enabled,
+        level,
+        priority,
+        nest,
+        core,
+    };
     Progress {
         state,
         at,

@@ -8,7 +8,7 @@ use lib.Dec.{ltb, leb·suc-suc}
 use borrow.Author.Tests.{lt-ltb, le-ltb}
 use Rattle.script.specs.declared.ReadEvent.{ReadEvent}
 use Rattle.script.specs.declared.ReadEvent.the-variants.{Refused}
-use Rattle.script.specs.declared.number.Number.the-variants.{Value, Bad}
+use Rattle.numbers.specs.declared.Number.the-variants.{Value, Bad}
 use Rattle.script.specs.Event.{arity}
 use Rattle.script.specs.EventLaws.{arity-few}
 use Rattle.script.specs.Reading.{Numbers, numbers, broken, before, then, numbersAt, eventOf, withArguments}

@@ -13,8 +13,8 @@ use Rattle.script.specs.declared.Written.the-variants.{Next, Refused}
 use Rattle.script.specs.declared.writing.Numbers.{Numbers}
 use Rattle.script.specs.Event.{kindOf, argumentsOf, arity}
 use Rattle.script.specs.EventLaws.{arity-few}
-use Rattle.script.specs.Number.{numberBytes}
-use Rattle.script.specs.NumberLaws.{groups-size}
+use Rattle.numbers.specs.Number.{numberBytes}
+use Rattle.numbers.specs.NumberLaws.{groups-size}
 use Rattle.script.specs.Steps.{bytesIf, numbersOf}
 use Rattle.script.specs.Writing.{numbersBytes, eventBytes, fits, writeEvent, bytesAfter}
 

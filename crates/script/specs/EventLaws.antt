@@ -14,11 +14,11 @@ use Rattle.script.specs.declared.Event.the-variants.{Read, Write, Line, 
 use Rattle.script.specs.declared.ReadEvent.{ReadEvent}
 use Rattle.script.specs.declared.ReadEvent.the-variants.{Found, Refused}
 use Rattle.script.specs.declared.Written.the-variants as written
-use Rattle.script.specs.declared.number.Number.{Number}
-use Rattle.script.specs.declared.number.Number.the-variants.{Value, Bad}
+use Rattle.numbers.specs.declared.Number.{Number}
+use Rattle.numbers.specs.declared.Number.the-variants.{Value, Bad}
 use Rattle.script.specs.Event.{accessNumber, accessKind, kindOf, argumentsOf, arity, normal, Normal}
-use Rattle.script.specs.Number.{numberBytes, numberAt}
-use Rattle.script.specs.NumberLaws.{groups-some, Bytes, Spells, spells-append, spells-nothing, spells-inside, number-written, number-read}
+use Rattle.numbers.specs.Number.{numberBytes, numberAt}
+use Rattle.numbers.specs.NumberLaws.{groups-some, Bytes, Spells, spells-append, spells-nothing, spells-inside, number-written, number-read}
 use Rattle.script.specs.Reading.{Numbers, numbers, broken, before, then, numbersAt, eventOf, withArguments, withKind, readEvent}
 use Rattle.script.specs.Writing.{numbersBytes, eventBytes, fits, writeEvent, bytesAfter}
 

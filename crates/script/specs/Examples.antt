@@ -4,9 +4,9 @@ use mathlib.Core.Path.{_≡_, refl}
 use mathlib.Core.List.{List, [], _∷_}
 use Rattle.script.specs.declared.Event.{Event}
 use Rattle.script.specs.declared.Event.the-variants.{Write, Line, Entry, Return}
-use Rattle.script.specs.declared.number.Number.the-variants.{Value, Bad}
+use Rattle.numbers.specs.declared.Number.the-variants.{Value, Bad}
 use Rattle.script.specs.Event.{kindOf, argumentsOf, arity}
-use Rattle.script.specs.Number.{groups, numberBytes, joined, groupsAt, numberAt}
+use Rattle.numbers.specs.Number.{groups, numberBytes, joined, groupsAt, numberAt}
 use Rattle.script.specs.Reading.{before, then, numbersAt, eventOf, withArguments, withKind, readEvent}
 use Rattle.script.specs.Script.{whole, followed, scriptFrom, scriptOf, bytesOf}
 use Rattle.script.specs.Writing.{numbersBytes, eventBytes}

@@ -1,8 +1,6 @@
 pub mod Event
 pub mod EventLaws
 pub mod Examples
-pub mod Number
-pub mod NumberLaws
 pub mod Reading
 pub mod Script
 pub mod ScriptLaws

@@ -7,10 +7,10 @@ use lib.Dec.{eqb, ltb}
 use Rattle.script.specs.declared.Event.the-variants.{Read, Write, Line, Nmi, Tick, Fault, Svc, Special, Entry, Return, Access}
 use Rattle.script.specs.declared.ReadEvent.{ReadEvent}
 use Rattle.script.specs.declared.ReadEvent.the-variants.{Found, Refused}
-use Rattle.script.specs.declared.number.Number.{Number}
-use Rattle.script.specs.declared.number.Number.the-variants.{Value, Bad}
+use Rattle.numbers.specs.declared.Number.{Number}
+use Rattle.numbers.specs.declared.Number.the-variants.{Value, Bad}
 use Rattle.script.specs.Event.{accessKind, arity}
-use Rattle.script.specs.Number.{numberAt, numberRefusal}
+use Rattle.numbers.specs.Number.{numberAt, numberRefusal}
 
 -- some numbers in a row and the offset after them, or one of them is refused by 13
 pub data Numbers : Type 0 where

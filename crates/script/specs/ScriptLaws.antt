@@ -14,7 +14,7 @@ use Rattle.script.specs.declared.ReadEvent.{ReadEvent}
 use Rattle.script.specs.declared.ReadEvent.the-variants.{Found, Refused}
 use Rattle.script.specs.Event.{normal, Normal}
 use Rattle.script.specs.EventLaws.{InRange, event-some, event-written, event-read}
-use Rattle.script.specs.NumberLaws.{Bytes, Spells, spells-append, spells-nothing}
+use Rattle.numbers.specs.NumberLaws.{Bytes, Spells, spells-append, spells-nothing}
 use Rattle.script.specs.Reading.{readEvent}
 use Rattle.script.specs.Script.{End, ended, brokenBy, Script, whole, followed, scriptFrom, scriptOf, bytesOf}
 use Rattle.script.specs.Writing.{eventBytes}

@@ -4,11 +4,11 @@ use Prim.Native.Nat.{ℕ}
 use mathlib.Core.List.{List, [], _∷_}
 use mathlib.Core.Bool.{Bool, cond}
 use lib.ListN.{take}
-use Rattle.script.specs.declared.number.Number.{Number}
-use Rattle.script.specs.declared.number.Number.the-variants.{Value}
+use Rattle.numbers.specs.declared.Number.{Number}
+use Rattle.numbers.specs.declared.Number.the-variants.{Value}
 use Rattle.script.specs.declared.writing.Numbers.{Numbers}
 use Rattle.script.specs.Event.{arity}
-use Rattle.script.specs.Number.{numberAt, numberBytes}
+use Rattle.numbers.specs.Number.{numberAt, numberBytes}
 
 -- the number at `at`, or 0 and no byte read if it is not there
 unfoldable pub numberIf : List ℕ → ℕ → Bool → Number

@@ -9,7 +9,7 @@ use Rattle.script.specs.declared.Event.{Event}
 use Rattle.script.specs.declared.Written.{Written}
 use Rattle.script.specs.declared.Written.the-variants.{Next, Refused}
 use Rattle.script.specs.Event.{kindOf, argumentsOf}
-use Rattle.script.specs.Number.{numberBytes}
+use Rattle.numbers.specs.Number.{numberBytes}
 
 unfoldable pub numbersBytes : List ℕ → List ℕ
 numbersBytes [] = []

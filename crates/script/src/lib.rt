@@ -2,12 +2,9 @@
 ghost use mathlib.Core.Path.{_≡_};
 ghost use Rattle.script.specs.Event.{accessNumber, accessKind, arity};
 
-mod number;
 mod reading;
 mod writing;
 
-pub use number::Number;
-pub use number::read_number;
 pub use reading::read_event;
 pub use writing::write_event;
 

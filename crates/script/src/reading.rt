@@ -5,8 +5,8 @@ ghost use Rattle.script.specs.Reading.{numbersAt, eventOf, withArguments
 ghost use Rattle.script.specs.Steps.{numberIf};
 use crate::Event;
 use crate::ReadEvent;
-use crate::number::Number;
-use crate::number::read_number;
+use numbers::Number;
+use numbers::read_number;
 
 fn event_of(kind: u32, a: u32, b: u32, c: u32, next: usize) -> ReadEvent
     ensures { λ r. ⌜ r ≡ eventOf kind a b c next ⌝ }

@@ -11,8 +11,8 @@ ghost use Rattle.script.specs.Writing.{numbersBytes, writeEvent, bytesAf
 use crate::Event;
 use crate::Written;
 use crate::access_number;
-use crate::number::size;
-use crate::number::write_groups;
+use numbers::size;
+use numbers::write_groups;
 
 // The kind of an event and three arguments, 0 where its kind has fewer.
 struct Numbers(u32, u32, u32, u32);

@@ -1,8 +1,8 @@
 // Scripts at their edges: each line of `stdout` was worked out by hand from document 01.
 use libc::STDOUT_FILENO;
+use numbers::Number;
 use script::AccessKind;
 use script::Event;
-use script::Number;
 use script::ReadEvent;
 use script::Written;
 
@@ -22,7 +22,7 @@ fn refused(r: u32) {
 
 // A number and the offset after it, or its refusal.
 fn show_number(bytes: &[u8], at: usize) {
-    match script::read_number(bytes, at) {
+    match numbers::read_number(bytes, at) {
         Number::Value(n, next) => {
             text(b"value");
             number(n as u64);

@@ -1,18 +1,6 @@
 -- Laws of the tests that the code makes in another form than the definitions.
-use Prim.Native.Nat.{ℕ, _+_, _-_, _≤_}
-use mathlib.Core.Path.{_≡_, refl}
-use mathlib.Core.Bool.{Bool, true, false, _&&_}
-use native.Mathlib.Omega.{arith}
-use lib.Dec.{ltb}
-use borrow.Author.Tests.{ltb-true, ltb-false, lt-ltb, le-ltb}
-
--- n - k < m is n < k + m
-pub ltb-sub : (k n m : ℕ) → k ≤ n → ltb (n - k) m ≡ ltb n (k + m)
-ltb-sub k n m h = cases (ltb n (k + m)) refl
-  where
-    cases : (b : Bool) → ltb n (k + m) ≡ b → ltb (n - k) m ≡ b
-    cases true e = lt-ltb (n - k) m (omega (arith, ltb-true n (k + m) e))
-    cases false e = le-ltb (n - k) m (omega (arith, ltb-false n (k + m) e))
+use mathlib.Core.Path.{_≡_}
+use mathlib.Core.Bool.{Bool, true, _&&_}
 
 -- tests that all hold
 pub both : {a b : Bool} → a ≡ true → b ≡ true → (a && b) ≡ true

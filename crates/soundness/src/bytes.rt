@@ -1,6 +1,6 @@
 // Priority bytes hold only the kept bits, and 0 where no exception has a byte.
-use crate::numbers::has_byte;
 use bits::wide;
+use exceptions::has_byte;
 use priority::kept_byte;
 use rules::Chip;
 ghost use mathlib.Core.Path.{_≡_};

@@ -1,5 +1,5 @@
 // Flags stand only where they may.
-use crate::numbers::stands;
+use exceptions::stands;
 use rules::Chip;
 use rules::Place;
 ghost use mathlib.Core.Path.{_≡_};

@@ -5,7 +5,7 @@ ghost use mathlib.Core.Bool.{not, _&&_, _||_};
 ghost use Prim.Native.Nat.{_≤_, _<_};
 ghost use lib.Dec.{eqb};
 ghost use lib.ListN.{length, getD};
-ghost use Rattle.bits.specs.Flags.{on};
+ghost use Rattle.flag_words.specs.Flags.{on};
 ghost use Rattle.rules.specs.Chip.{flagCount, exceptionCount, isIn};
 ghost use Rattle.rules.specs.Model.{down};
 ghost use Rattle.rules.specs.Sound.{implies, every, nestedSound, allOn, allDistinct, unusedSound, soundNest};

@@ -6,17 +6,17 @@ use Rattle.rules.specs.Writes.{withByte, withBytes}
 use Rattle.nvic.proofs.bytes.put_bytes.Statement.{statement}
 use Rattle.nvic.proofs.bytes.put_bytes.Tie as tie
 
-put-byte-after-requires : tie.Need-put-byte-after-requires
-put-byte-after-requires c κs = search needs
+put-lane-requires : tie.Need-put-lane-requires
+put-lane-requires c κs = search needs
 
-put-byte-after-requires-2 : tie.Need-put-byte-after-requires-2
-put-byte-after-requires-2 c κs = search needs
+put-lane-requires-2 : tie.Need-put-lane-requires-2
+put-lane-requires-2 c κs = search needs
 
-put-byte-after-requires-3 : tie.Need-put-byte-after-requires-3
-put-byte-after-requires-3 c κs = search needs
+put-lane-requires-3 : tie.Need-put-lane-requires-3
+put-lane-requires-3 c κs = search needs
 
-put-byte-after-requires-4 : tie.Need-put-byte-after-requires-4
-put-byte-after-requires-4 c κs = search needs
+put-lane-requires-4 : tie.Need-put-lane-requires-4
+put-lane-requires-4 c κs = search needs
 
 same-length : tie.Need-same-length
 same-length c = search needs
@@ -24,18 +24,18 @@ same-length c = search needs
 returns : tie.Need-returns
 unfolding withBytes
 returns c =
-    c .before .before .put-byte-after4 .ensures
-    ∙ ap (withByte _ _ _) (c .before .before .before .before .before .before .put-byte-after3 .ensures
-    ∙ ap (withByte _ _ _) (c .before .before .before .before .before .before .before .before .before .before .put-byte-after2 .ensures
-    ∙ ap (withByte _ _ _) (rw add-zero at (c .before .before .before .before .before .before .before .before .before .before .before .before .before .before .put-byte-after .ensures))))
+    c .before .before .put-lane4 .ensures
+    ∙ ap (withByte _ _ _) (c .before .before .before .before .before .before .put-lane3 .ensures
+    ∙ ap (withByte _ _ _) (c .before .before .before .before .before .before .before .before .before .before .put-lane2 .ensures
+    ∙ ap (withByte _ _ _) (rw add-zero at (c .before .before .before .before .before .before .before .before .before .before .before .before .before .before .put-lane .ensures))))
 
 pub put-bytes-spec : {M : Type 1} → statement M
 put-bytes-spec =
     tie.close
     (tie.spec
-    put-byte-after-requires
-    put-byte-after-requires-2
-    put-byte-after-requires-3
-    put-byte-after-requires-4
+    put-lane-requires
+    put-lane-requires-2
+    put-lane-requires-3
+    put-lane-requires-4
     same-length
     returns)

@@ -3,7 +3,7 @@ use mathlib.Core.Bool.{Bool}
 use mathlib.Core.Path.{refl, ap, _∙_}
 use native.Mathlib.Omega.{arith}
 use lib.ListN.{length}
-use Rattle.script.specs.Number.{numberBytes}
+use Rattle.numbers.specs.Number.{numberBytes}
 use Rattle.script.specs.Steps.{bytesIf}
 use borrow.Author.Needs.{needs}
 use Rattle.script.proofs.writing.put_if.Statement.{statement}

@@ -1,6 +1,6 @@
 -- A number that is there takes its groups; another takes none.
 use mathlib.Core.Path.{_∙_}
-use Rattle.script.specs.Number.{numberBytes}
+use Rattle.numbers.specs.Number.{numberBytes}
 use Rattle.script.specs.Steps.{bytesIf}
 use borrow.Author.Needs.{needs}
 use Rattle.script.proofs.writing.size_if.Statement.{statement}

@@ -1,0 +1,110 @@
+// Faults and SVC on lent lists, for every chip. `limit` is the execution priority.
+ghost use mathlib.Core.Path.{_≡_};
+ghost use mathlib.Core.Bool.{Bool, not, _&&_};
+ghost use mathlib.Core.List.{List};
+ghost use Prim.Native.Nat.{ℕ, _<_};
+ghost use lib.Signed.{ltZ};
+ghost use Rattle.priority.specs.Priority.{isEnabled, groupPriority};
+ghost use Rattle.priority.specs.declared.Found.the-variants.{At};
+ghost use Rattle.rules.specs.Lent.{modelOf, answerOf};
+ghost use Rattle.rules.specs.Priorities.{execution};
+ghost use Rattle.rules.specs.Events.{raised, faultRaised, faultCall, svcCall};
+use nvic::flags::store_flag;
+use outcome::accepted;
+use outcome::refused;
+use priority::Found;
+use rules::Core;
+use rules::Outcome;
+use rules::System;
+
+// Whether HardFault takes what exception n may not.
+fn escalates(enabled: &[bool], priority: &[u8], group: u32, limit: i32, n: usize) -> bool
+    ensures { λ r. ⌜ r ≡ not (isEnabled (now (enabled .entry)) n && ltZ (groupPriority group (now (priority .entry)) n) limit) ⌝ }
+{
+    if priority::is_enabled(enabled, n) {
+        if priority::group_priority(priority, n, group) < limit {
+            return false;
+        }
+    }
+    true
+}
+
+// n is 4, 5, 6 or 11.
+fn raised(
+    pending: &mut [bool],
+    enabled: &[bool],
+    priority: &[u8],
+    mut core: Core,
+    limit: i32,
+    n: usize,
+    status: System,
+) -> Outcome
+    requires { ⌜ n < 16 ⌝ }
+    ensures { λ r. ⌜ ((active level : List Bool) (nest : List ℕ) → limit ≡ execution (modelOf (now (pending .entry)) active (now (enabled .entry)) level (now (priority .entry)) nest core) → answerOf r (now (pending .exit)) active (now (enabled .entry)) level (now (priority .entry)) nest ≡ raised (modelOf (now (pending .entry)) active (now (enabled .entry)) level (now (priority .entry)) nest core) n status) ⌝ }
+{
+    if escalates(enabled, priority, core.group, limit, n) {
+        let forced = system::faults::forced(status);
+        core.system = forced;
+        store_flag(pending, 3, true);
+        return accepted(core, 3);
+    }
+    core.system = status;
+    store_flag(pending, n, true);
+    accepted(core, n as u32)
+}
+
+// The fault of a bit whose exception is n.
+fn fault_at(
+    pending: &mut [bool],
+    enabled: &[bool],
+    priority: &[u8],
+    core: Core,
+    limit: i32,
+    n: usize,
+    bit: u32,
+    address: u32,
+) -> Outcome
+    requires { ⌜ (n < 16) × (bit < 32) ⌝ }
+    ensures { λ r. ⌜ ((active level : List Bool) (nest : List ℕ) → limit ≡ execution (modelOf (now (pending .entry)) active (now (enabled .entry)) level (now (priority .entry)) nest core) → answerOf r (now (pending .exit)) active (now (enabled .entry)) level (now (priority .entry)) nest ≡ faultRaised (modelOf (now (pending .entry)) active (now (enabled .entry)) level (now (priority .entry)) nest core) (At n) bit address) ⌝ }
+{
+    if limit < 0 {
+        return refused(core, 10);
+    }
+    let system = core.system;
+    let status = system::faults::fault_status(system, bit, address);
+    raised(pending, enabled, priority, core, limit, n, status)
+}
+
+pub fn fault(
+    pending: &mut [bool],
+    enabled: &[bool],
+    priority: &[u8],
+    core: Core,
+    limit: i32,
+    bit: u32,
+    address: u32,
+) -> Outcome
+    ensures { λ r. ⌜ ((active level : List Bool) (nest : List ℕ) → limit ≡ execution (modelOf (now (pending .entry)) active (now (enabled .entry)) level (now (priority .entry)) nest core) → answerOf r (now (pending .exit)) active (now (enabled .entry)) level (now (priority .entry)) nest ≡ faultCall (modelOf (now (pending .entry)) active (now (enabled .entry)) level (now (priority .entry)) nest core) bit address) ⌝ }
+{
+    let found = system::faults::fault_exception(bit);
+    match found {
+        Found::At(n) => fault_at(pending, enabled, priority, core, limit, n, bit, address),
+        Found::Nothing => refused(core, 7),
+    }
+}
+
+pub fn svc(
+    pending: &mut [bool],
+    enabled: &[bool],
+    priority: &[u8],
+    core: Core,
+    limit: i32,
+) -> Outcome
+    ensures { λ r. ⌜ ((active level : List Bool) (nest : List ℕ) → limit ≡ execution (modelOf (now (pending .entry)) active (now (enabled .entry)) level (now (priority .entry)) nest core) → answerOf r (now (pending .exit)) active (now (enabled .entry)) level (now (priority .entry)) nest ≡ svcCall (modelOf (now (pending .entry)) active (now (enabled .entry)) level (now (priority .entry)) nest core)) ⌝ }
+{
+    if limit < 0 {
+        return refused(core, 10);
+    }
+    let system = core.system;
+    raised(pending, enabled, priority, core, limit, 11, system)
+}

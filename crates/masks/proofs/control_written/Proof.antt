@@ -1,0 +1,22 @@
+-- By the definition's own test.
+use borrow.Author.Needs.{needs}
+use Rattle.rules.specs.Events.{controlWritten}
+use Rattle.masks.proofs.control_written.Statement.{statement}
+use Rattle.masks.proofs.control_written.Tie as tie
+
+test-bit-requires : tie.Need-test-bit-requires
+test-bit-requires c κs = search needs
+
+test-bit-requires-2 : tie.Need-test-bit-requires-2
+test-bit-requires-2 c κs = search needs
+
+returns : tie.Need-returns
+unfolding controlWritten
+returns c = simp (c .test-bit2 .ensures, c .before .if1 .taken, c .before .before .test-bit .ensures)
+
+returns-2 : tie.Need-returns-2
+unfolding controlWritten
+returns-2 c = simp (c .if1 .left, c .before .test-bit .ensures)
+
+pub control-written-spec : {M : Type 1} → statement M
+control-written-spec = tie.close (tie.spec test-bit-requires test-bit-requires-2 returns returns-2)

@@ -1,0 +1,35 @@
+-- A first group below 128 is the whole number; else the groups are read by the recursion, five at most.
+use native.Mathlib.Omega.{arith}
+use lib.ListN.{getD}
+use borrow.Author.Tests.{lt-ltb}
+use Rattle.numbers.specs.Number.{numberAt}
+use Rattle.numbers.specs.NumberLaws.{groupsAt-step}
+use borrow.Author.Needs.{needs}
+use Rattle.numbers.proofs.read_number.Statement.{statement}
+use Rattle.numbers.proofs.read_number.Tie as tie
+
+shared-slice-read-first : tie.Need-shared-slice-read-first
+shared-slice-read-first c = search needs
+
+cast-first : tie.Need-cast-first
+cast-first c = omega (arith, c .shared-slice-known2 .given (c .before .before .before .args .at))
+
+add-t9 : tie.Need-add-t9
+add-t9 c = search needs
+
+returns : tie.Need-returns
+unfolding numberAt
+returns c =
+    rw (groupsAt-step (c .before .before .before .before .args .bytes .now) (c .before .before .before .before .args .at) 5 (omega arith))
+    (simp (lt-ltb _ _ (c .before .before .if1 .taken), lt-ltb (getD (c .before .before .before .before .args .bytes .now) (c .before .before .before .before .args .at) 0) 128 (omega arith)))
+
+read-groups-requires : tie.Need-read-groups-requires
+read-groups-requires c κs = search needs
+
+returns-2 : tie.Need-returns-2
+unfolding numberAt
+returns-2 c = c .read-groups .ensures
+
+pub read-number-spec : {M : Type 1} → statement M
+read-number-spec =
+    tie.close (tie.spec shared-slice-read-first cast-first add-t9 returns read-groups-requires returns-2)

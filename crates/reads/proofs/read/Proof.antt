@@ -1,0 +1,58 @@
+-- The refusals in their order, then the register.
+use mathlib.Core.Path.{_∙_, sym}
+use borrow.Author.Tests.{eq-eqb, ne-eqb}
+use Rattle.rules.specs.Registers.{readCall}
+use borrow.Author.Needs.{needs}
+use Rattle.reads.proofs.read.Statement.{statement}
+use Rattle.reads.proofs.read.Tie as tie
+
+sub-register-at : tie.Need-sub-register-at
+sub-register-at c = search needs
+
+register-at-requires : tie.Need-register-at-requires
+register-at-requires c κs = search needs
+
+is-privileged-requires : tie.Need-is-privileged-requires
+is-privileged-requires c κs = search needs
+
+access-refusal-requires : tie.Need-access-refusal-requires
+access-refusal-requires c κs = search needs
+
+value-of-requires : tie.Need-value-of-requires
+value-of-requires c κs = search needs
+
+after-read-requires : tie.Need-after-read-requires
+after-read-requires c κs = search needs
+
+lane-of-requires : tie.Need-lane-of-requires
+lane-of-requires c κs = search needs
+
+accepted-requires : tie.Need-accepted-requires
+accepted-requires c κs = search needs
+
+returns : tie.Need-returns
+unfolding readCall
+returns c = λ level. simp (c .accepted .ensures, c .before .before .after-read .ensures (c .before .before .before .before .before .before .before .before .before .before .before .before .before .args .pending .now) (c .before .before .before .before .before .before .before .before .before .before .before .before .before .args .active .now) (c .before .before .before .before .before .before .before .before .before .before .before .before .before .args .enabled .now) level (c .before .before .before .before .before .before .before .before .before .before .before .before .before .args .priority .now) (c .before .before .before .before .before .before .before .before .before .before .before .before .before .args .nest .now), c .before .lane-of .ensures, c .before .before .before .value-of .ensures level, c .before .before .before .before .before .before .before .register-at .ensures, sym (simp (c .before .before .before .before .before .before .before .register-at .ensures, c .before .before .before .before .before .before .is-privileged .ensures) at (c .before .before .before .before .before .access-refusal .ensures)), eq-eqb _ _ (c .before .before .before .before .if1 .taken))
+
+refused-requires : tie.Need-refused-requires
+refused-requires c κs = search needs
+
+returns-2 : tie.Need-returns-2
+unfolding readCall
+returns-2 c = λ level. simp (c .refused .ensures, sym (simp (c .before .before .before .before .register-at .ensures, c .before .before .before .is-privileged .ensures) at (c .before .before .access-refusal .ensures)), ne-eqb _ _ (c .before .if1 .left))
+
+pub read-spec : {M : Type 1} → statement M
+read-spec =
+    tie.close
+    (tie.spec
+    sub-register-at
+    register-at-requires
+    is-privileged-requires
+    access-refusal-requires
+    value-of-requires
+    after-read-requires
+    lane-of-requires
+    accepted-requires
+    returns
+    refused-requires
+    returns-2)

@@ -1,0 +1,85 @@
+-- One clause a kind of register.
+use mathlib.Core.Path.{_∙_}
+use Rattle.rules.specs.Reads.{valueOf}
+use borrow.Author.Needs.{needs}
+use Rattle.reads.proofs.value_of.Statement.{statement}
+use Rattle.reads.proofs.value_of.Tie as tie
+
+enum-told : tie.Need-enum-told
+enum-told c = search needs
+
+enum-known-register : tie.Need-enum-known-register
+enum-known-register c = search needs
+
+timer-value-requires : tie.Need-timer-value-requires
+timer-value-requires c κs = search needs
+
+enum-known-register-2 : tie.Need-enum-known-register-2
+enum-known-register-2 c = search needs
+
+bank-value-requires : tie.Need-bank-value-requires
+bank-value-requires c κs = search needs
+
+enum-known-register-3 : tie.Need-enum-known-register-3
+enum-known-register-3 c = search needs
+
+bytes-value-requires : tie.Need-bytes-value-requires
+bytes-value-requires c κs = search needs
+
+enum-known-register-4 : tie.Need-enum-known-register-4
+enum-known-register-4 c = search needs
+
+system-value-requires : tie.Need-system-value-requires
+system-value-requires c κs = search needs
+
+enum-known-register-5 : tie.Need-enum-known-register-5
+enum-known-register-5 c = search needs
+
+read-requires : tie.Need-read-requires
+read-requires c κs = search needs
+
+returns : tie.Need-returns
+unfolding valueOf
+returns c = λ level. simp (c .enum-told .given .1)
+
+returns-2 : tie.Need-returns-2
+unfolding valueOf
+returns-2 c = λ level. c .timer-value .ensures ∙ simp (c .before .before .register .given .1)
+
+returns-3 : tie.Need-returns-3
+unfolding valueOf
+returns-3 c = λ level. c .bank-value .ensures level (c .before .before .before .before .before .before .before .before .before .before .before .args .priority .now) (c .before .before .before .before .before .before .before .before .before .before .before .args .nest .now) (c .before .before .before .before .before .before .before .before .before .before .before .args .core) ∙ simp (c .before .before .register2 .given .1)
+
+returns-4 : tie.Need-returns-4
+unfolding valueOf
+returns-4 c = λ level. c .bytes-value .ensures ∙ simp (c .before .before .register3 .given .1)
+
+returns-5 : tie.Need-returns-5
+unfolding valueOf
+returns-5 c = λ level. c .system-value .ensures level (c .before .before .before .before .before .before .before .before .before .before .before .args .priority .now) ∙ simp (c .before .before .register4 .given .1)
+
+returns-6 : tie.Need-returns-6
+unfolding valueOf
+returns-6 c = λ level. c .read .ensures ∙ simp (c .before .before .register5 .given .1)
+
+pub value-of-spec : {M : Type 1} → statement M
+value-of-spec =
+    tie.close
+    (tie.spec
+    enum-told
+    enum-known-register
+    timer-value-requires
+    enum-known-register-2
+    bank-value-requires
+    enum-known-register-3
+    bytes-value-requires
+    enum-known-register-4
+    system-value-requires
+    enum-known-register-5
+    read-requires
+    returns
+    returns-2
+    returns-3
+    returns-4
+    returns-5
+    returns-6)

@@ -1,0 +1,60 @@
+-- A link value that fits has something to return from; any other is refused by 9.
+use Rattle.returning.proofs.Laws.{sub-one}
+use mathlib.Core.Path.{_∙_, sym}
+use Rattle.priority.specs.Order.{is-true}
+use Rattle.rules.specs.Nesting.{returnCall}
+use Rattle.rules.proofs.Nesting.{link-deep}
+use borrow.Author.Needs.{needs}
+use Rattle.returning.proofs.return_.Statement.{statement}
+use Rattle.returning.proofs.return_.Tie as tie
+
+link-fits-requires : tie.Need-link-fits-requires
+link-fits-requires c κs = search needs
+
+sub-top-of : tie.Need-sub-top-of
+sub-top-of c = link-deep _ (c .before .before .before .before .before .before .before .before .args .value) (is-true (sym (c .before .before .before .link-fits .ensures) ∙ c .before .before .if1 .taken))
+
+top-of-requires : tie.Need-top-of-requires
+top-of-requires c κs = search needs
+
+leave-requires : tie.Need-leave-requires
+leave-requires c κs = link-deep _ (c .before .before .before .before .before .before .before .before .before .before .before .before .args .value) (is-true (sym (c .before .before .before .before .before .before .before .link-fits .ensures) ∙ c .before .before .before .before .before .before .if1 .taken))
+
+accepted-requires : tie.Need-accepted-requires
+accepted-requires c κs = search needs
+
+same-length : tie.Need-same-length
+same-length c = search needs
+
+same-length-2 : tie.Need-same-length-2
+same-length-2 c = search needs
+
+same-length-3 : tie.Need-same-length-3
+same-length-3 c = search needs
+
+returns : tie.Need-returns
+unfolding returnCall
+returns c = λ enabled priority. simp (c .accepted .ensures, c .before .before .before .before .before .before .before .leave .ensures enabled priority, c .before .before .before .before .before .before .before .before .before .before .before .top-of .ensures, sym (c .before .before .before .before .before .before .before .before .before .before .before .before .before .before .before .link-fits .ensures) ∙ c .before .before .before .before .before .before .before .before .before .before .before .before .before .before .if1 .taken, sub-one)
+
+refused-requires : tie.Need-refused-requires
+refused-requires c κs = search needs
+
+returns-2 : tie.Need-returns-2
+unfolding returnCall
+returns-2 c = λ enabled priority. simp (c .refused .ensures, sym (c .before .before .link-fits .ensures) ∙ c .before .if1 .left)
+
+pub return--spec : {M : Type 1} → statement M
+return--spec =
+    tie.close
+    (tie.spec
+    link-fits-requires
+    sub-top-of
+    top-of-requires
+    leave-requires
+    accepted-requires
+    same-length
+    same-length-2
+    same-length-3
+    returns
+    refused-requires
+    returns-2)

@@ -1,0 +1,37 @@
+-- Where the test of the lengths passes, each list has its length.
+use mathlib.Core.Path.{_≡_}
+use mathlib.Core.Bool.{Bool, true, _&&_}
+use lib.ListN.{length}
+use lib.Dec.{T, eqb, eqb→eq}
+use Rattle.priority.specs.Order.{is-true, both}
+use Rattle.rules.specs.declared.Chip.{Chip}
+use Rattle.rules.specs.Chip.{flagCount, exceptionCount}
+use Rattle.rules.specs.Model.{Model}
+use Rattle.rules.specs.Sound.{isSized}
+
+pub record Sized (c : Chip) (m : Model) : Type 0 where
+  pub pending : length (m .pending) ≡ flagCount c
+  pub active : length (m .active) ≡ flagCount c
+  pub enabled : length (m .enabled) ≡ flagCount c
+  pub level : length (m .level) ≡ flagCount c
+  pub priority : length (m .priority) ≡ flagCount c
+  pub nest : length (m .nest) ≡ exceptionCount c
+
+and-l : (a b : Bool) → T (a && b) → T a
+and-l a b t = both a b t .0
+
+and-r : (a b : Bool) → T (a && b) → T b
+and-r a b t = both a b t .1
+
+pub sized : (c : Chip) (m : Model) → isSized c m ≡ true → Sized c m
+unfolding isSized
+sized c m e =
+    let t : T (isSized c m) = is-true e in
+    record {
+      pending = eqb→eq (length (m .pending)) (flagCount c) (search (and-l, and-r) depth 10);
+      active = eqb→eq (length (m .active)) (flagCount c) (search (and-l, and-r) depth 10);
+      enabled = eqb→eq (length (m .enabled)) (flagCount c) (search (and-l, and-r) depth 10);
+      level = eqb→eq (length (m .level)) (flagCount c) (search (and-l, and-r) depth 10);
+      priority = eqb→eq (length (m .priority)) (flagCount c) (search (and-l, and-r) depth 10);
+      nest = eqb→eq (length (m .nest)) (exceptionCount c) (search (and-l, and-r) depth 10);
+    }

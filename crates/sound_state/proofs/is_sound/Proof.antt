@@ -1,0 +1,59 @@
+-- By the definition's own tests, in its order.
+use mathlib.Core.Path.{_∙_, sym}
+use Rattle.rules.specs.Lent.{modelOf}
+use Rattle.rules.specs.Sound.{isSound}
+use Rattle.sound_state.proofs.Laws.{sized}
+use borrow.Author.Tests.{not-true, not-false}
+use borrow.Author.Needs.{needs}
+use Rattle.sound_state.proofs.is_sound.Statement.{statement}
+use Rattle.sound_state.proofs.is_sound.Tie as tie
+
+is-sized-requires : tie.Need-is-sized-requires
+is-sized-requires c κs = search needs
+
+returns : tie.Need-returns
+unfolding isSound
+returns c = simp (sym (c .before .is-sized .ensures (c .before .before .before .before .before .before .before .before .args .core)) ∙ not-true _ (c .if1 .taken))
+
+sound-flags-requires : tie.Need-sound-flags-requires
+sound-flags-requires c κs = let z = (sized (c .before .before .before .before .before .before .before .before .args .chip) (modelOf (c .before .before .before .before .before .before .before .before .args .pending .now) (c .before .before .before .before .before .before .before .before .args .active .now) (c .before .before .before .before .before .before .before .before .args .enabled .now) (c .before .before .before .before .before .before .before .before .args .level .now) (c .before .before .before .before .before .before .before .before .args .priority .now) (c .before .before .before .before .before .before .before .before .args .nest .now) (c .before .before .before .before .before .before .before .before .args .core)) (sym (c .before .is-sized .ensures (c .before .before .before .before .before .before .before .before .args .core)) ∙ not-false _ (c .if1 .left))) in (z .pending, z .active, z .enabled, z .level)
+
+returns-2 : tie.Need-returns-2
+unfolding isSound
+returns-2 c = simp (sym (c .before .before .before .is-sized .ensures (c .before .before .before .before .before .before .before .before .before .before .args .core)) ∙ not-false _ (c .before .before .if1 .left), sym (c .before .sound-flags .ensures) ∙ not-true _ (c .if2 .taken))
+
+bytes-sound-requires : tie.Need-bytes-sound-requires
+bytes-sound-requires c κs = ((sized (c .before .before .before .before .before .before .before .before .before .before .args .chip) (modelOf (c .before .before .before .before .before .before .before .before .before .before .args .pending .now) (c .before .before .before .before .before .before .before .before .before .before .args .active .now) (c .before .before .before .before .before .before .before .before .before .before .args .enabled .now) (c .before .before .before .before .before .before .before .before .before .before .args .level .now) (c .before .before .before .before .before .before .before .before .before .before .args .priority .now) (c .before .before .before .before .before .before .before .before .before .before .args .nest .now) (c .before .before .before .before .before .before .before .before .before .before .args .core)) (sym (c .before .before .before .is-sized .ensures (c .before .before .before .before .before .before .before .before .before .before .args .core)) ∙ not-false _ (c .before .before .if1 .left))) .priority, c .before .before .before .before .before .before .before .before .before .before .pre)
+
+returns-3 : tie.Need-returns-3
+unfolding isSound
+returns-3 c = simp (sym (c .before .before .before .before .before .is-sized .ensures (c .before .before .before .before .before .before .before .before .before .before .before .before .args .core)) ∙ not-false _ (c .before .before .before .before .if1 .left), sym (c .before .before .before .sound-flags .ensures) ∙ not-false _ (c .before .before .if2 .left), sym (c .before .bytes-sound .ensures) ∙ not-true _ (c .if3 .taken))
+
+sound-nest-requires : tie.Need-sound-nest-requires
+sound-nest-requires c κs = let z = (sized (c .before .before .before .before .before .before .before .before .before .before .before .before .args .chip) (modelOf (c .before .before .before .before .before .before .before .before .before .before .before .before .args .pending .now) (c .before .before .before .before .before .before .before .before .before .before .before .before .args .active .now) (c .before .before .before .before .before .before .before .before .before .before .before .before .args .enabled .now) (c .before .before .before .before .before .before .before .before .before .before .before .before .args .level .now) (c .before .before .before .before .before .before .before .before .before .before .before .before .args .priority .now) (c .before .before .before .before .before .before .before .before .before .before .before .before .args .nest .now) (c .before .before .before .before .before .before .before .before .before .before .before .before .args .core)) (sym (c .before .before .before .before .before .is-sized .ensures (c .before .before .before .before .before .before .before .before .before .before .before .before .args .core)) ∙ not-false _ (c .before .before .before .before .if1 .left))) in (z .active, z .nest)
+
+returns-4 : tie.Need-returns-4
+unfolding isSound
+returns-4 c = simp (sym (c .before .before .before .before .before .before .before .is-sized .ensures (c .before .before .before .before .before .before .before .before .before .before .before .before .before .before .args .core)) ∙ not-false _ (c .before .before .before .before .before .before .if1 .left), sym (c .before .before .before .before .before .sound-flags .ensures) ∙ not-false _ (c .before .before .before .before .if2 .left), sym (c .before .before .before .bytes-sound .ensures) ∙ not-false _ (c .before .before .if3 .left), sym (c .before .sound-nest .ensures) ∙ not-true _ (c .if4 .taken))
+
+is-core-sound-requires : tie.Need-is-core-sound-requires
+is-core-sound-requires c κs = search needs
+
+returns-5 : tie.Need-returns-5
+unfolding isSound
+returns-5 c = c .is-core-sound .ensures ∙ simp (sym (c .before .before .before .before .before .before .before .before .is-sized .ensures (c .before .before .before .before .before .before .before .before .before .before .before .before .before .before .before .args .core)) ∙ not-false _ (c .before .before .before .before .before .before .before .if1 .left), sym (c .before .before .before .before .before .before .sound-flags .ensures) ∙ not-false _ (c .before .before .before .before .before .if2 .left), sym (c .before .before .before .before .bytes-sound .ensures) ∙ not-false _ (c .before .before .before .if3 .left), sym (c .before .before .sound-nest .ensures) ∙ not-false _ (c .before .if4 .left))
+
+pub is-sound-spec : {M : Type 1} → statement M
+is-sound-spec =
+    tie.close
+    (tie.spec
+    is-sized-requires
+    returns
+    sound-flags-requires
+    returns-2
+    bytes-sound-requires
+    returns-3
+    sound-nest-requires
+    returns-4
+    is-core-sound-requires
+    returns-5)

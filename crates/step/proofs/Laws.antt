@@ -1,0 +1,17 @@
+-- A state that is ready for an event has numbers in range.
+use Prim.Native.Nat.{_<_, _≤_}
+use native.Mathlib.Omega.{arith}
+use lib.ListN.{length}
+use lib.IntN.{ℤ}
+use Rattle.rules.specs.declared.Chip.{Chip}
+use Rattle.rules.specs.Model.{Model}
+use Rattle.rules.proofs.Check.{depth-fits}
+use Rattle.step.specs.Ready.{Ready}
+
+-- what an entry asks
+pub enterable : {c : Chip} {m : Model} {limit : ℤ} → Ready c m limit → (length (m .pending) ≤ 256) × ((m .depth < 256) × (m .system .vtable < 1073741824))
+enterable r =
+    let l = r .lines in
+    let s = r .sound .pending .size in
+    let d = depth-fits (r .sound) in
+    (omega arith, (omega arith, omega (arith, r .sound .system .vtable)))

@@ -1,0 +1,264 @@
+-- One arm a kind.
+use mathlib.Core.Path.{_∙_}
+use mir.Facts.{toZ-ofZ}
+use Rattle.step.proofs.Laws.{enterable}
+use borrow.Author.Needs.{needs}
+use Rattle.step.proofs.act.Statement.{statement}
+use Rattle.step.proofs.act.Tie as tie
+
+enum-known-event : tie.Need-enum-known-event
+enum-known-event c = search needs
+
+read-requires : tie.Need-read-requires
+read-requires c κs = c .before .before .before .before .before .before .before .before .before .before .before .before .before .before .pre .sound .group
+
+enum-known-event-2 : tie.Need-enum-known-event-2
+enum-known-event-2 c = search needs
+
+write-requires : tie.Need-write-requires
+write-requires c κs = search needs
+
+enum-known-event-3 : tie.Need-enum-known-event-3
+enum-known-event-3 c = search needs
+
+line-requires : tie.Need-line-requires
+line-requires c κs = search needs
+
+enum-told : tie.Need-enum-told
+enum-told c = search needs
+
+nmi-requires : tie.Need-nmi-requires
+nmi-requires c κs = search needs
+
+enum-told-2 : tie.Need-enum-told-2
+enum-told-2 c = search needs
+
+tick-requires : tie.Need-tick-requires
+tick-requires c κs = search needs
+
+enum-known-event-4 : tie.Need-enum-known-event-4
+enum-known-event-4 c = search needs
+
+fault-requires : tie.Need-fault-requires
+fault-requires c κs = search needs
+
+enum-told-3 : tie.Need-enum-told-3
+enum-told-3 c = search needs
+
+svc-requires : tie.Need-svc-requires
+svc-requires c κs = search needs
+
+enum-known-event-5 : tie.Need-enum-known-event-5
+enum-known-event-5 c = search needs
+
+special-requires : tie.Need-special-requires
+special-requires c κs = search needs
+
+enum-told-4 : tie.Need-enum-told-4
+enum-told-4 c = search needs
+
+entry-requires : tie.Need-entry-requires
+entry-requires c κs = enterable (c .before .before .before .before .before .before .before .before .before .before .before .before .before .pre)
+
+enum-known-event-6 : tie.Need-enum-known-event-6
+enum-known-event-6 c = search needs
+
+return--requires : tie.Need-return--requires
+return--requires c κs = search needs
+
+enum-known-event-7 : tie.Need-enum-known-event-7
+enum-known-event-7 c = search needs
+
+access-number-requires : tie.Need-access-number-requires
+access-number-requires c κs = search needs
+
+access-requires : tie.Need-access-requires
+access-requires c κs = search needs
+
+same-length : tie.Need-same-length
+same-length c = search needs
+
+same-length-2 : tie.Need-same-length-2
+same-length-2 c = search needs
+
+same-length-3 : tie.Need-same-length-3
+same-length-3 c = search needs
+
+same-length-4 : tie.Need-same-length-4
+same-length-4 c = search needs
+
+same-length-5 : tie.Need-same-length-5
+same-length-5 c = search needs
+
+returns : tie.Need-returns
+returns c = c .read .ensures (c .before .before .before .before .before .before .before .before .before .before .before .before .before .before .before .args .level .now) ∙ simp (c .before .before .before .before .before .before .before .event .given .1)
+
+same-length-6 : tie.Need-same-length-6
+same-length-6 c = search needs
+
+same-length-7 : tie.Need-same-length-7
+same-length-7 c = search needs
+
+same-length-8 : tie.Need-same-length-8
+same-length-8 c = search needs
+
+same-length-9 : tie.Need-same-length-9
+same-length-9 c = search needs
+
+same-length-10 : tie.Need-same-length-10
+same-length-10 c = search needs
+
+returns-2 : tie.Need-returns-2
+returns-2 c = c .before .before .before .before .before .before .write .ensures (c .before .before .before .before .before .before .before .before .before .before .before .before .before .before .before .before .before .before .before .before .before .args .nest .now) ∙ simp (c .before .before .before .before .before .before .before .before .before .before .before .before .before .event2 .given .1)
+
+same-length-11 : tie.Need-same-length-11
+same-length-11 c = search needs
+
+same-length-12 : tie.Need-same-length-12
+same-length-12 c = search needs
+
+returns-3 : tie.Need-returns-3
+returns-3 c = c .before .before .before .before .line .ensures (c .before .before .before .before .before .before .before .before .before .before .before .before .before .before .before .before .args .active .now) (c .before .before .before .before .before .before .before .before .before .before .before .before .before .before .before .before .args .enabled .now) (c .before .before .before .before .before .before .before .before .before .before .before .before .before .before .before .before .args .priority .now) (c .before .before .before .before .before .before .before .before .before .before .before .before .before .before .before .before .args .nest .now) ∙ simp (c .before .before .before .before .before .before .before .before .event3 .given .1)
+
+same-length-13 : tie.Need-same-length-13
+same-length-13 c = search needs
+
+returns-4 : tie.Need-returns-4
+returns-4 c = c .before .before .nmi .ensures (c .before .before .before .before .before .before .before .before .before .before .before .before .args .active .now) (c .before .before .before .before .before .before .before .before .before .before .before .before .args .enabled .now) (c .before .before .before .before .before .before .before .before .before .before .before .before .args .level .now) (c .before .before .before .before .before .before .before .before .before .before .before .before .args .priority .now) (c .before .before .before .before .before .before .before .before .before .before .before .before .args .nest .now) ∙ simp (c .before .before .before .before .enum-told .given .1)
+
+same-length-14 : tie.Need-same-length-14
+same-length-14 c = search needs
+
+returns-5 : tie.Need-returns-5
+returns-5 c = c .before .before .tick .ensures (c .before .before .before .before .before .before .before .before .before .before .before .before .args .active .now) (c .before .before .before .before .before .before .before .before .before .before .before .before .args .enabled .now) (c .before .before .before .before .before .before .before .before .before .before .before .before .args .level .now) (c .before .before .before .before .before .before .before .before .before .before .before .before .args .priority .now) (c .before .before .before .before .before .before .before .before .before .before .before .before .args .nest .now) ∙ simp (c .before .before .before .before .enum-told2 .given .1)
+
+same-length-15 : tie.Need-same-length-15
+same-length-15 c = search needs
+
+same-length-16 : tie.Need-same-length-16
+same-length-16 c = search needs
+
+same-length-17 : tie.Need-same-length-17
+same-length-17 c = search needs
+
+returns-6 : tie.Need-returns-6
+returns-6 c = c .before .before .fault .ensures (c .before .before .before .before .before .before .before .before .before .before .before .before .before .before .before .args .active .now) (c .before .before .before .before .before .before .before .before .before .before .before .before .before .before .before .args .level .now) (c .before .before .before .before .before .before .before .before .before .before .before .before .before .before .before .args .nest .now) (toZ-ofZ (c .before .before .before .before .before .before .before .before .before .before .before .before .before .before .before .fits .limit) ∙ c .before .before .before .before .before .before .before .before .before .before .before .before .before .before .before .pre .priority) ∙ simp (c .before .before .before .before .before .before .before .event4 .given .1)
+
+same-length-18 : tie.Need-same-length-18
+same-length-18 c = search needs
+
+same-length-19 : tie.Need-same-length-19
+same-length-19 c = search needs
+
+same-length-20 : tie.Need-same-length-20
+same-length-20 c = search needs
+
+returns-7 : tie.Need-returns-7
+returns-7 c = c .before .before .svc .ensures (c .before .before .before .before .before .before .before .before .before .before .before .before .before .before .args .active .now) (c .before .before .before .before .before .before .before .before .before .before .before .before .before .before .args .level .now) (c .before .before .before .before .before .before .before .before .before .before .before .before .before .before .args .nest .now) (toZ-ofZ (c .before .before .before .before .before .before .before .before .before .before .before .before .before .before .fits .limit) ∙ c .before .before .before .before .before .before .before .before .before .before .before .before .before .before .pre .priority) ∙ simp (c .before .before .before .before .before .before .enum-told3 .given .1)
+
+returns-8 : tie.Need-returns-8
+returns-8 c = c .special .ensures (c .before .before .before .before .before .before .before .before .before .before .args .pending .now) (c .before .before .before .before .before .before .before .before .before .before .args .active .now) (c .before .before .before .before .before .before .before .before .before .before .args .enabled .now) (c .before .before .before .before .before .before .before .before .before .before .args .level .now) (c .before .before .before .before .before .before .before .before .before .before .args .priority .now) (c .before .before .before .before .before .before .before .before .before .before .args .nest .now) (toZ-ofZ (c .before .before .before .before .before .before .before .before .before .before .fits .limit) ∙ c .before .before .before .before .before .before .before .before .before .before .pre .priority) ∙ simp (c .before .before .event5 .given .1)
+
+same-length-21 : tie.Need-same-length-21
+same-length-21 c = search needs
+
+same-length-22 : tie.Need-same-length-22
+same-length-22 c = search needs
+
+same-length-23 : tie.Need-same-length-23
+same-length-23 c = search needs
+
+same-length-24 : tie.Need-same-length-24
+same-length-24 c = search needs
+
+same-length-25 : tie.Need-same-length-25
+same-length-25 c = search needs
+
+returns-9 : tie.Need-returns-9
+returns-9 c = c .before .before .before .before .before .before .entry .ensures (c .before .before .before .before .before .before .before .before .before .before .before .before .before .before .before .before .before .before .before .before .args .level .now) (toZ-ofZ (c .before .before .before .before .before .before .before .before .before .before .before .before .before .before .before .before .before .before .before .before .fits .limit) ∙ c .before .before .before .before .before .before .before .before .before .before .before .before .before .before .before .before .before .before .before .before .pre .priority) ∙ simp (c .before .before .before .before .before .before .before .before .before .before .before .before .enum-told4 .given .1)
+
+same-length-26 : tie.Need-same-length-26
+same-length-26 c = search needs
+
+same-length-27 : tie.Need-same-length-27
+same-length-27 c = search needs
+
+same-length-28 : tie.Need-same-length-28
+same-length-28 c = search needs
+
+same-length-29 : tie.Need-same-length-29
+same-length-29 c = search needs
+
+returns-10 : tie.Need-returns-10
+returns-10 c = c .before .before .before .before .before .before .return- .ensures (c .before .before .before .before .before .before .before .before .before .before .before .before .before .before .before .before .before .before .before .before .args .enabled .now) (c .before .before .before .before .before .before .before .before .before .before .before .before .before .before .before .before .before .before .before .before .args .priority .now) ∙ simp (c .before .before .before .before .before .before .before .before .before .before .before .before .event6 .given .1)
+
+returns-11 : tie.Need-returns-11
+returns-11 c = c .access .ensures (c .before .before .before .before .before .before .before .before .before .before .before .args .pending .now) (c .before .before .before .before .before .before .before .before .before .before .before .args .active .now) (c .before .before .before .before .before .before .before .before .before .before .before .args .enabled .now) (c .before .before .before .before .before .before .before .before .before .before .before .args .level .now) (c .before .before .before .before .before .before .before .before .before .before .before .args .priority .now) (c .before .before .before .before .before .before .before .before .before .before .before .args .nest .now) (toZ-ofZ (c .before .before .before .before .before .before .before .before .before .before .before .fits .limit) ∙ c .before .before .before .before .before .before .before .before .before .before .before .pre .priority) ∙ simp (c .before .access-number .ensures, c .before .before .before .event7 .given .1)
+
+pub act-spec : {M : Type 1} → statement M
+act-spec =
+    tie.close
+    (tie.spec
+    enum-known-event
+    read-requires
+    enum-known-event-2
+    write-requires
+    enum-known-event-3
+    line-requires
+    enum-told
+    nmi-requires
+    enum-told-2
+    tick-requires
+    enum-known-event-4
+    fault-requires
+    enum-told-3
+    svc-requires
+    enum-known-event-5
+    special-requires
+    enum-told-4
+    entry-requires
+    enum-known-event-6
+    return--requires
+    enum-known-event-7
+    access-number-requires
+    access-requires
+    same-length
+    same-length-2
+    same-length-3
+    same-length-4
+    same-length-5
+    returns
+    same-length-6
+    same-length-7
+    same-length-8
+    same-length-9
+    same-length-10
+    returns-2
+    same-length-11
+    same-length-12
+    returns-3
+    same-length-13
+    returns-4
+    same-length-14
+    returns-5
+    same-length-15
+    same-length-16
+    same-length-17
+    returns-6
+    same-length-18
+    same-length-19
+    same-length-20
+    returns-7
+    returns-8
+    same-length-21
+    same-length-22
+    same-length-23
+    same-length-24
+    same-length-25
+    returns-9
+    same-length-26
+    same-length-27
+    same-length-28
+    same-length-29
+    returns-10
+    returns-11)

@@ -1,0 +1,66 @@
+// Any event on lent lists, for every chip. What an event leaves is sound again (`act-sound` of the rules), so a run of many events
+// tests its state once.
+ghost use mathlib.Core.Path.{_≡_};
+ghost use Rattle.rules.specs.Lent.{modelOf, answerOf};
+ghost use Rattle.rules.specs.Step.{actOf};
+ghost use Rattle.step.specs.Ready.{Ready};
+use rules::Chip;
+use rules::Core;
+use rules::Outcome;
+use script::Event;
+
+// `limit` is the execution priority.
+pub fn act(
+    chip: Chip,
+    pending: &mut [bool],
+    active: &mut [bool],
+    enabled: &mut [bool],
+    level: &mut [bool],
+    priority: &mut [u8],
+    nest: &mut [u8],
+    core: Core,
+    limit: i32,
+    event: Event,
+) -> Outcome
+    requires { ⌜ Ready chip (modelOf (now pending) (now active) (now enabled) (now level) (now priority) (now nest) core) limit ⌝ }
+    ensures { λ r. ⌜ answerOf r (now (pending .exit)) (now (active .exit)) (now (enabled .exit)) (now (level .exit)) (now (priority .exit)) (now (nest .exit)) ≡ actOf chip (modelOf (now (pending .entry)) (now (active .entry)) (now (enabled .entry)) (now (level .entry)) (now (priority .entry)) (now (nest .entry)) core) event ⌝ }
+{
+    match event {
+        Event::Read(width, address) => reads::read(
+            chip,
+            pending,
+            active,
+            enabled,
+            priority,
+            nest,
+            core,
+            width,
+            address,
+        ),
+        Event::Write(width, address, value) => writes::write(
+            chip,
+            pending,
+            active,
+            enabled,
+            level,
+            priority,
+            core,
+            width,
+            address,
+            value,
+        ),
+        Event::Line(line, to) => lines::line(chip, pending, level, core, line, to),
+        Event::Nmi => lines::nmi(pending, core),
+        Event::Tick => lines::ticks::tick(pending, core),
+        Event::Fault(bit, address) => {
+            faults::fault(pending, enabled, priority, core, limit, bit, address)
+        }
+        Event::Svc => faults::svc(pending, enabled, priority, core, limit),
+        Event::Special(which, value) => special::special(chip, core, limit, which, value),
+        Event::Entry => entry::entry(pending, active, enabled, priority, nest, core, limit),
+        Event::Return(value) => returning::return_(pending, active, level, nest, core, value),
+        Event::Access(kind, width, address) => {
+            access::access(core, limit, script::access_number(kind), width, address)
+        }
+    }
+}

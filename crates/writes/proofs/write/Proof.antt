@@ -1,0 +1,79 @@
+-- The refusals in their order, then the register.
+use mathlib.Core.Path.{_∙_, sym}
+use borrow.Author.Tests.{eq-eqb, ne-eqb}
+use Rattle.rules.specs.Registers.{written, writeCall}
+use borrow.Author.Needs.{needs}
+use Rattle.writes.proofs.write.Statement.{statement}
+use Rattle.writes.proofs.write.Tie as tie
+
+sub-register-at : tie.Need-sub-register-at
+sub-register-at c = search needs
+
+register-at-requires : tie.Need-register-at-requires
+register-at-requires c κs = search needs
+
+may-write-requires : tie.Need-may-write-requires
+may-write-requires c κs = search needs
+
+access-refusal-requires : tie.Need-access-refusal-requires
+access-refusal-requires c κs = search needs
+
+word-written-requires : tie.Need-word-written-requires
+word-written-requires c κs = search needs
+
+accepted-requires : tie.Need-accepted-requires
+accepted-requires c κs = search needs
+
+same-length : tie.Need-same-length
+same-length c = search needs
+
+same-length-2 : tie.Need-same-length-2
+same-length-2 c = search needs
+
+same-length-3 : tie.Need-same-length-3
+same-length-3 c = search needs
+
+returns : tie.Need-returns
+unfolding writeCall written
+returns c = λ nest. simp (c .accepted .ensures, c .before .before .before .before .before .before .before .word-written .ensures nest, c .before .before .before .before .before .before .before .before .before .before .before .before .before .before .before .register-at .ensures, sym (simp (c .before .before .before .before .before .before .before .before .before .before .before .before .before .before .before .register-at .ensures, c .before .before .before .before .before .before .before .before .before .before .before .before .before .before .may-write .ensures, eq-eqb _ _ (c .before .before .before .before .before .before .before .before .before .before .before .if2 .taken)) at (c .before .before .before .before .before .before .before .before .before .before .before .before .before .access-refusal .ensures)), eq-eqb _ _ (c .before .before .before .before .before .before .before .before .before .before .before .before .if1 .taken), eq-eqb _ _ (c .before .before .before .before .before .before .before .before .before .before .before .if2 .taken))
+
+byte-written-requires : tie.Need-byte-written-requires
+byte-written-requires c κs = search needs
+
+accepted-requires-2 : tie.Need-accepted-requires-2
+accepted-requires-2 c κs = search needs
+
+same-length-4 : tie.Need-same-length-4
+same-length-4 c = search needs
+
+returns-2 : tie.Need-returns-2
+unfolding writeCall written
+returns-2 c = λ nest. simp (c .accepted2 .ensures, c .before .before .before .byte-written .ensures (c .before .before .before .before .before .before .before .before .before .before .before .before .before .before .before .args .pending .now) (c .before .before .before .before .before .before .before .before .before .before .before .before .before .before .before .args .active .now) (c .before .before .before .before .before .before .before .before .before .before .before .before .before .before .before .args .enabled .now) (c .before .before .before .before .before .before .before .before .before .before .before .before .before .before .before .args .level .now) nest (c .before .before .before .before .before .before .before .before .before .before .before .before .before .before .before .args .core), c .before .before .before .before .before .before .before .before .before .register-at .ensures, sym (simp (c .before .before .before .before .before .before .before .before .before .register-at .ensures, c .before .before .before .before .before .before .before .before .may-write .ensures, ne-eqb _ _ (c .before .before .before .before .before .if2 .left)) at (c .before .before .before .before .before .before .before .access-refusal .ensures)), eq-eqb _ _ (c .before .before .before .before .before .before .if1 .taken), ne-eqb _ _ (c .before .before .before .before .before .if2 .left))
+
+refused-requires : tie.Need-refused-requires
+refused-requires c κs = search needs
+
+returns-3 : tie.Need-returns-3
+unfolding writeCall
+returns-3 c = λ nest. simp (c .refused .ensures, sym (simp (c .before .before .before .before .register-at .ensures, c .before .before .before .may-write .ensures) at (c .before .before .access-refusal .ensures)), ne-eqb _ _ (c .before .if1 .left))
+
+pub write-spec : {M : Type 1} → statement M
+write-spec =
+    tie.close
+    (tie.spec
+    sub-register-at
+    register-at-requires
+    may-write-requires
+    access-refusal-requires
+    word-written-requires
+    accepted-requires
+    same-length
+    same-length-2
+    same-length-3
+    returns
+    byte-written-requires
+    accepted-requires-2
+    same-length-4
+    returns-2
+    refused-requires
+    returns-3)
