@@ -1,6 +1,6 @@
 /* A plain C version of document 01's rules: an independent check of `bench`, and what its speed is measured against.
  * Reads a script from standard input and prints bench's lines; with an argument N it runs the script N times without
- * printing and prints only the sum of the values, for timing the rules alone. */
+ * printing, testing the state before each event as a library call does, and prints only the sum of refusals and values. */
 #include <stdint.h>
 #include <stdio.h>
 #include <stdlib.h>
@@ -353,6 +353,43 @@ static Answer step(Model *m, uint32_t kind, const uint32_t *a) {
     }
 }
 
+/* ---- the test of refusal 16 */
+
+static int is_line(int n) { return n >= 16; }
+
+static int is_exception(int n) { return n == 2 || n == 3 || has_byte(n); }
+
+static int sound_numbers(const Model *m) {
+    for (int n = 0; n < FLAGS; n++) {
+        if ((m->pending[n] || m->active[n]) && !is_exception(n)) return 0;
+        if (m->enabled[n] && !(n >= 4 && n <= 6) && !is_line(n)) return 0;
+        if (m->level[n] && !is_line(n)) return 0;
+        if (m->priority[n] & (has_byte(n) ? 0x1F : 0xFF)) return 0;
+    }
+    return 1;
+}
+
+static int sound_nest(const Model *m) {
+    int actives = 0;
+    if (m->depth > NEST) return 0;
+    for (int i = 0; i < m->depth; i++) {
+        if (m->nest[i] >= FLAGS || !m->active[m->nest[i]]) return 0;
+        for (int j = 0; j < i; j++) if (m->nest[j] == m->nest[i]) return 0;
+    }
+    for (int i = m->depth; i < NEST; i++) if (m->nest[i]) return 0;
+    for (int n = 0; n < FLAGS; n++) actives += m->active[n];
+    return actives == m->depth;
+}
+
+static int sound(const Model *m) {
+    if (!sound_numbers(m) || !sound_nest(m) || m->group > 7 || m->basepri & ~0xE0u) return 0;
+    if (m->st_control > 7 || m->st_reload > 0xFFFFFF || m->st_current > 0xFFFFFF) return 0;
+    if (m->mpu_control > 7 || m->mpu_region > 7) return 0;
+    for (int i = 0; i < 8; i++) if (m->mpu_base[i] & 31 || m->mpu_attributes[i] & ~0x173FFF3Fu) return 0;
+    return !(m->vtable & ~0x3FFFFE00u || m->sysctrl & ~0x16u || m->cfgctrl & ~0x31Au || m->faultstat & ~0x030F8383u
+        || m->hfaultstat & ~0x40000000u);
+}
+
 static char out[1 << 16];
 static size_t out_length;
 
@@ -387,7 +424,7 @@ static uint32_t run(const uint8_t *s, size_t n, int print, uint64_t *sum, size_t
         if (!number(s, n, &at, &kind)) return 13;
         if (kind < 1 || kind > 11) return 14;
         for (int i = 0; i < argument_count[kind]; i++) if (!number(s, n, &at, &a[i])) return 13;
-        Answer r = step(&m, kind, a);
+        Answer r = print || sound(&m) ? step(&m, kind, a) : refuse(16);
         *sum += r.refusal + r.value;
         if (print) put_line(k, r, &m);
     }

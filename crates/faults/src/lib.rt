@@ -4,7 +4,8 @@ ghost use mathlib.Core.Bool.{Bool, not, _&&_};
 ghost use mathlib.Core.List.{List};
 ghost use Prim.Native.Nat.{ℕ, _<_};
 ghost use lib.Signed.{ltZ};
-ghost use Rattle.priority.specs.Priority.{isEnabled, groupPriority};
+ghost use Rattle.grouping.specs.Grouping.{groupPriority};
+ghost use Rattle.priority.specs.Priority.{isEnabled};
 ghost use Rattle.priority.specs.declared.Found.the-variants.{At};
 ghost use Rattle.rules.specs.Lent.{modelOf, answerOf};
 ghost use Rattle.rules.specs.Priorities.{execution};
@@ -22,7 +23,7 @@ fn escalates(enabled: &[bool], priority: &[u8], group: u32, limit: i32, n: usize
     ensures { λ r. ⌜ r ≡ not (isEnabled (now (enabled .entry)) n && ltZ (groupPriority group (now (priority .entry)) n) limit) ⌝ }
 {
     if priority::is_enabled(enabled, n) {
-        if priority::group_priority(priority, n, group) < limit {
+        if grouping::group_priority(priority, n, group) < limit {
             return false;
         }
     }

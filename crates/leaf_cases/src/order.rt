@@ -8,26 +8,26 @@ use priority::execution_priority;
 fn groups() {
     four(
         b"group of 0x60 at p = 4, 5, 6; of 0xE0 at p = 6",
-        priority::group_of(0x60, 4),
-        priority::group_of(0x60, 5),
-        priority::group_of(0x60, 6),
-        priority::group_of(0xe0, 6),
+        grouping::group_of(0x60, 4),
+        grouping::group_of(0x60, 5),
+        grouping::group_of(0x60, 6),
+        grouping::group_of(0xe0, 6),
     );
     let mut bytes = [0u8; 71];
     bytes[16] = 0x60;
     four_priorities(
         b"full priority of 2, 3, 16 (0x60), 17",
-        priority::full_priority(&bytes, 2),
-        priority::full_priority(&bytes, 3),
-        priority::full_priority(&bytes, 16),
-        priority::full_priority(&bytes, 17),
+        grouping::full_priority(&bytes, 2),
+        grouping::full_priority(&bytes, 3),
+        grouping::full_priority(&bytes, 16),
+        grouping::full_priority(&bytes, 17),
     );
     four_priorities(
         b"group of 3 at p = 0, 7; of 2 at p = 0; of 16 (0x60) at p = 5",
-        priority::group_priority(&bytes, 3, 0),
-        priority::group_priority(&bytes, 3, 7),
-        priority::group_priority(&bytes, 2, 0),
-        priority::group_priority(&bytes, 16, 5),
+        grouping::group_priority(&bytes, 3, 0),
+        grouping::group_priority(&bytes, 3, 7),
+        grouping::group_priority(&bytes, 2, 0),
+        grouping::group_priority(&bytes, 16, 5),
     );
 }
 

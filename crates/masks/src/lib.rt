@@ -73,8 +73,8 @@ pub fn special_written(
     match which {
         0 => with_primask(masks, bits::test_bit(v, 0)),
         1 => faultmask_written(masks, bits::test_bit(v, 0), negative),
-        2 => with_basepri(masks, priority::kept_byte(v, chip.bits)),
-        3 => basepri_raised(masks, priority::kept_byte(v, chip.bits)),
+        2 => with_basepri(masks, grouping::kept_byte(v, chip.bits)),
+        3 => basepri_raised(masks, grouping::kept_byte(v, chip.bits)),
         _ => control_written(masks, v, thread),
     }
 }

@@ -1,6 +1,6 @@
 -- The machine's mask keeps the fields that the definition sums.
 use Prim.Native.Nat.{ℕ, _+_, _*_, _/_, _%_, _^_}
-use mathlib.Core.Path.{_≡_, refl, sym, _∙_}
+use mathlib.Core.Path.{_≡_, sym, _∙_}
 use native.Mathlib.Omega.{arith}
 use lib.Bits.{bitAnd, and-shr, and-mod, and-mask}
 use lib.Pow.{split}

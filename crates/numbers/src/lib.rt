@@ -1,6 +1,6 @@
 // Numbers of a script: groups of seven bits, lowest first, bit 7 set where more follow.
 ghost use mathlib.Core.Path.{_≡_};
-ghost use Prim.Native.Nat.{ℕ, _+_, _<_, _≤_};
+ghost use Prim.Native.Nat.{_+_, _<_, _≤_};
 ghost use lib.ListN.{length};
 ghost use lib.Seq.{sets};
 ghost use Rattle.numbers.specs.Number.{groups, joined, groupsAt, numberAt};

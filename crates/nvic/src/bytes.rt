@@ -46,7 +46,7 @@ pub fn put_byte(priority: &mut [u8], chip: Chip, n: usize, b: u32)
     ensures { λ _. ⌜ now (priority .exit) ≡ withByte chip n b (now (priority .entry)) ⌝ }
 {
     if has_byte(chip, n) {
-        store_byte(priority, n, priority::kept_byte(b, chip.bits));
+        store_byte(priority, n, grouping::kept_byte(b, chip.bits));
     }
 }
 

@@ -12,7 +12,8 @@ use lib.IntN.{ℤ, pos, negsuc}
 use lib.Signed.{ltZ, _≤ℤ_, _<ℤ_, leZ-yes, ltZ-yes, ltZ-no, ≤ℤ-refl, <ℤ-≤ℤ-trans, <ℤ-irrefl}
 use Rattle.priority.specs.declared.Found.{Found}
 use Rattle.priority.specs.declared.Found.the-variants.{At, Nothing}
-use Rattle.priority.specs.Priority.{groupOf, grouped, fullPriority, groupPriority, under, masked, leastActive, executionPriority, leastNested, executionNested, isEnabled, eligible, better, best, bestPending}
+use Rattle.grouping.specs.Grouping.{groupOf, grouped, fullPriority, groupPriority}
+use Rattle.priority.specs.Priority.{under, masked, leastActive, executionPriority, leastNested, executionNested, isEnabled, eligible, better, best, bestPending}
 use Rattle.priority.specs.Order.{is-true, is-false, both, join, by-cases, below-suc, flag-below, <ℤ-≤ℤ, <ℤ-or-≡, Least, least-unique, least-same, With, least-under}
 
 -- no group number is below -2

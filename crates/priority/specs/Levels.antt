@@ -10,7 +10,7 @@ use lib.Pow.{split, shr-lt, mod-mod-pow}
 use lib.Dec.{T, leb, eqb, leb→le, nleb→lt, ltb→lt}
 use lib.IntN.{ℤ, pos, negsuc}
 use lib.Signed.{ltZ, _<ℤ_}
-use Rattle.priority.specs.Priority.{keptByte, groupOf, grouped, groupPriority}
+use Rattle.grouping.specs.Grouping.{keptByte, groupOf, grouped, groupPriority}
 use Rattle.priority.specs.Order.{by-cases, few, is-true, fails, Rising}
 
 -- a byte with none but its upper w bits

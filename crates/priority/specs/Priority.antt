@@ -1,33 +1,14 @@
--- Document 01, "Priorities" and the choice of "Entry": over any number of exceptions, with the group setting p and the number w of kept bits as parameters.
-use Prim.Native.Nat.{ℕ, zero, suc, _+_, _-_, _*_, _/_, _%_, _^_}
+-- Document 01, "Priorities" and the choice of "Entry": the execution priority and the one to enter, over any number of exceptions.
+use Prim.Native.Nat.{ℕ, zero, suc}
 use mathlib.Core.List.{List}
 use mathlib.Core.Bool.{Bool, false, not, cond, _&&_, _||_}
 use lib.ListN.{length, getD}
 use lib.Dec.{eqb}
 use lib.IntN.{ℤ, pos, negsuc}
 use lib.Signed.{ltZ}
+use Rattle.grouping.specs.Grouping.{groupOf, fullPriority, groupPriority}
 use Rattle.priority.specs.declared.Found.{Found}
 use Rattle.priority.specs.declared.Found.the-variants.{At, Nothing}
-
--- "The rest have a byte; bits 7:5 are kept, the others read 0": the upper w bits of a byte
-abbrev pub keptByte : ℕ → ℕ → ℕ
-keptByte w b = b % 256 / 2 ^ (8 - w) * 2 ^ (8 - w)
-
--- "the group number of a byte is the byte with bits p:0 cleared"
-abbrev pub groupOf : ℕ → ℕ → ℕ
-groupOf p b = b / 2 ^ (p + 1) * 2 ^ (p + 1)
-
--- "Fixed priorities are their own group number": only a priority that is not negative is cut
-abbrev pub grouped : ℕ → ℤ → ℤ
-grouped p (pos b) = pos (groupOf p b)
-grouped p (negsuc k) = negsuc k
-
--- "Fixed priorities: NMI -2, HardFault -1. The rest have a byte"; `negsuc k` is -(k + 1)
-abbrev pub fullPriority : List ℕ → ℕ → ℤ
-fullPriority bytes n = cond (eqb n 2) (negsuc 1) (cond (eqb n 3) (negsuc 0) (pos (getD bytes n 0)))
-
-abbrev pub groupPriority : ℕ → List ℕ → ℕ → ℤ
-groupPriority p bytes n = grouped p (fullPriority bytes n)
 
 -- ---- the execution priority
 

@@ -1,12 +1,10 @@
 -- A return part by part: making a line pending again touches the pending flags alone.
 use Prim.Native.Nat.{ℕ, zero, suc, pred, _-_}
 use mathlib.Core.Path.{_≡_, refl}
-use mathlib.Core.List.{List}
 use mathlib.Core.Bool.{Bool, true, false, cond}
 use native.Mathlib.Omega.{arith}
 use lib.ListN.{set}
 use Rattle.flag_words.specs.Flags.{on}
-use Rattle.priority.specs.Order.{by-cases}
 use Rattle.rules.specs.Model.{Model, stack, top, withPending, withMasks, withNest}
 use Rattle.rules.specs.Nesting.{returnedMasks, repended, returned}
 

@@ -9,7 +9,7 @@ use native.Mathlib.Omega.{arith}
 use lib.ListN.{length, getD, List·getD-eq-default}
 use lib.Dec.{T, ltb, eqb, le→leb, ltb→lt, lt→ltb, eqb→eq, eqb-refl, T-not, not-T, nltb→le}
 use Rattle.flag_words.specs.Flags.{on}
-use Rattle.priority.specs.Priority.{keptByte}
+use Rattle.grouping.specs.Grouping.{keptByte}
 use Rattle.priority.specs.Order.{is-true, fails, both, join, below-suc, flag-below, Distinct}
 use Rattle.systick.specs.Laws.{sound-timer-of, of-sound-timer}
 use Rattle.mpu.specs.Soundness.{soundMpu, sound-mpu-of, of-sound-mpu}

@@ -7,7 +7,7 @@ use native.Mathlib.Omega.{arith}
 use lib.Dec.{T, ltb, leb, eqb, nleb→lt}
 use Rattle.flag_words.specs.Flags.{on}
 use Rattle.bits.specs.Words.{bitAt, withBit}
-use Rattle.priority.specs.Priority.{keptByte}
+use Rattle.grouping.specs.Grouping.{keptByte}
 use Rattle.priority.specs.Order.{by-cases}
 use Rattle.priority.specs.declared.Found.the-variants.{At}
 use Rattle.systick.specs.Timer.{tickOf}

@@ -10,7 +10,8 @@ use lib.Dec.{T, ltb, eqb, ltb→lt, eqb→eq}
 use lib.Signed.{_≤ℤ_, _<ℤ_, <ℤ-≤ℤ-trans, clashℤ}
 use Rattle.flag_words.specs.Flags.{on}
 use Rattle.priority.specs.declared.Found.the-variants.{At}
-use Rattle.priority.specs.Priority.{keptByte, executionNested}
+use Rattle.grouping.specs.Grouping.{keptByte}
+use Rattle.priority.specs.Priority.{executionNested}
 use Rattle.priority.specs.Order.{both, either, by-cases, Rising}
 use Rattle.priority.specs.Laws.{Eligible, pending-best, execution-active, nested-execution}
 use Rattle.rules.specs.declared.Chip.{Chip}

@@ -4,7 +4,7 @@ use mathlib.Core.Path.{_≡_, refl}
 use mathlib.Core.List.{List}
 use mathlib.Core.Bool.{Bool, true}
 use lib.Dec.{T}
-use Rattle.priority.specs.Priority.{keptByte}
+use Rattle.grouping.specs.Grouping.{keptByte}
 use Rattle.systick.specs.declared.Timer.{Timer}
 use Rattle.systick.specs.Timer.{SoundTimer}
 use Rattle.mpu.specs.declared.Mpu.{Mpu}

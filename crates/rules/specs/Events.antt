@@ -7,7 +7,7 @@ use lib.Dec.{ltb, leb, eqb}
 use lib.Signed.{ltZ}
 use Rattle.flag_words.specs.Flags.{on}
 use Rattle.bits.specs.Words.{bit, bitAt, withBit}
-use Rattle.priority.specs.Priority.{keptByte}
+use Rattle.grouping.specs.Grouping.{keptByte}
 use Rattle.priority.specs.declared.Found.{Found}
 use Rattle.priority.specs.declared.Found.the-variants.{At, Nothing}
 use Rattle.systick.specs.declared.Ticked.{Ticked}

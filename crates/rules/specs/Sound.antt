@@ -9,7 +9,7 @@ use lib.Dec.{T, ltb, leb, eqb}
 use Rattle.flag_words.specs.Flags.{on}
 use Rattle.bits.specs.Words.{kept}
 use Rattle.priority.specs.Order.{Distinct}
-use Rattle.priority.specs.Priority.{keptByte}
+use Rattle.grouping.specs.Grouping.{keptByte}
 use Rattle.systick.specs.Timer.{soundTimer, SoundTimer}
 use Rattle.mpu.specs.Soundness.{soundMpu, SoundMpu}
 use Rattle.rules.specs.declared.Chip.{Chip}

@@ -6,7 +6,7 @@ use lib.ListN.{set}
 use lib.Dec.{ltb, eqb}
 use Rattle.flag_words.specs.Flags.{flagsWord, setFlags, clearFlags}
 use Rattle.bits.specs.Words.{field, bitAt, without, byteAt}
-use Rattle.priority.specs.Priority.{keptByte}
+use Rattle.grouping.specs.Grouping.{keptByte}
 use Rattle.systick.specs.declared.Timer.{Timer}
 use Rattle.systick.specs.Timer.{writeControl, writeReload, writeCurrent}
 use Rattle.mpu.specs.Registers.{writeMpu}

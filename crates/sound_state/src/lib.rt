@@ -4,7 +4,8 @@ ghost use mathlib.Core.Bool.{_&&_};
 ghost use Prim.Native.Nat.{_≤_};
 ghost use lib.ListN.{length};
 ghost use lib.Dec.{ltb, eqb};
-ghost use Rattle.priority.specs.Priority.{keptByte, executionNested};
+ghost use Rattle.grouping.specs.Grouping.{keptByte};
+ghost use Rattle.priority.specs.Priority.{executionNested};
 ghost use Rattle.systick.specs.Timer.{soundTimer};
 ghost use Rattle.mpu.specs.Soundness.{soundMpu};
 ghost use Rattle.rules.specs.declared.Core.{Core};
@@ -53,7 +54,7 @@ fn is_core_sound(chip: Chip, core: Core) -> bool
         return false;
     }
     let masks = core.masks;
-    if priority::kept_byte(bits::wide(masks.basepri), chip.bits) != masks.basepri {
+    if grouping::kept_byte(bits::wide(masks.basepri), chip.bits) != masks.basepri {
         return false;
     }
     let timer = core.timer;

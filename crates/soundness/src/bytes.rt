@@ -1,14 +1,14 @@
 // Priority bytes hold only the kept bits, and 0 where no exception has a byte.
 use bits::wide;
 use exceptions::has_byte;
-use priority::kept_byte;
+use grouping::kept_byte;
 use rules::Chip;
 ghost use mathlib.Core.Path.{_≡_};
 ghost use mathlib.Core.Bool.{_&&_, _||_};
 ghost use Prim.Native.Nat.{_≤_};
 ghost use lib.Dec.{eqb};
 ghost use lib.ListN.{length};
-ghost use Rattle.priority.specs.Priority.{keptByte};
+ghost use Rattle.grouping.specs.Grouping.{keptByte};
 ghost use Rattle.rules.specs.Chip.{flagCount, hasByte};
 ghost use Rattle.rules.specs.Sound.{every, byteSound};
 

@@ -18,10 +18,14 @@ is-set : (c : tie.Then1) → bitAt (c .before .before .args .k) (c .before .befo
 is-set c = sym (c .before .test-bit .ensures) ∙ c .if1 .taken
 
 sub-result : tie.Need-sub-result
-sub-result c = rw (one-shl (c .before .before .args .k) (c .before .before .pre)) (sub-bit (c .before .before .args .k) (c .before .before .args .x) (is-set c) .0)
+sub-result c =
+    let s = c .before .before in
+    rw (one-shl (s .args .k) (s .pre)) (sub-bit (s .args .k) (s .args .x) (is-set c) .0)
 
 returns : tie.Need-returns
-returns c = rw (one-shl (c .before .before .args .k) (c .before .before .pre)) (sub-bit (c .before .before .args .k) (c .before .before .args .x) (is-set c) .1)
+returns c =
+    let s = c .before .before in
+    rw (one-shl (s .args .k) (s .pre)) (sub-bit (s .args .k) (s .args .x) (is-set c) .1)
 
 returns-2 : tie.Need-returns-2
 returns-2 c = sym (with-bit-as-is (c .before .before .args .k) false (c .before .before .args .x) (sym (c .before .test-bit .ensures) ∙ c .if1 .left))

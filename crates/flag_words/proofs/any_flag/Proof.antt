@@ -1,9 +1,8 @@
 -- After k flags from `at` on the answer is `someFlag` of these k; the loop ends where k is all that the slice has.
 use Prim.Native.Nat.{suc, _≤_, _+_, _-_}
-use mathlib.Core.Path.{_≡_, refl, ap, _∙_}
+use mathlib.Core.Path.{_≡_, ap, _∙_}
 use native.Mathlib.Nat.{le-antisymm}
 use native.Mathlib.Omega.{arith}
-use borrow.Author.Needs.{needs}
 use lib.ListN.{length}
 use Rattle.flag_words.specs.Flags.{someFlag}
 use Rattle.flag_words.proofs.any_flag.Statement.{statement}

@@ -1,5 +1,4 @@
 -- A line or a level out of range is refused; any other goes to the level.
-use mathlib.Core.Path.{_∙_}
 use borrow.Author.Tests.{le-leb, lt-leb, lt-ltb, le-ltb}
 use Rattle.rules.specs.Events.{lineCall}
 use borrow.Author.Needs.{needs}

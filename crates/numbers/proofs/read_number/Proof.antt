@@ -20,8 +20,9 @@ add-t9 c = search needs
 returns : tie.Need-returns
 unfolding numberAt
 returns c =
-    rw (groupsAt-step (c .before .before .before .before .args .bytes .now) (c .before .before .before .before .args .at) 5 (omega arith))
-    (simp (lt-ltb _ _ (c .before .before .if1 .taken), lt-ltb (getD (c .before .before .before .before .args .bytes .now) (c .before .before .before .before .args .at) 0) 128 (omega arith)))
+    let s = c .before .before .before .before in
+    rw (groupsAt-step (s .args .bytes .now) (s .args .at) 5 (omega arith))
+    (simp (lt-ltb _ _ (c .before .before .if1 .taken), lt-ltb (getD (s .args .bytes .now) (s .args .at) 0) 128 (omega arith)))
 
 read-groups-requires : tie.Need-read-groups-requires
 read-groups-requires c κs = search needs

@@ -8,7 +8,8 @@ use lib.ListN.{length}
 use mir.Syntax.{w32}
 use mir.Val.{toZ}
 use mir.Facts.{toZ-ofZ}
-use Rattle.priority.specs.Priority.{fullPriority, eligible, best, bestPending}
+use Rattle.grouping.specs.Grouping.{fullPriority}
+use Rattle.priority.specs.Priority.{eligible, best, bestPending}
 use Rattle.priority.proofs.best_pending.Statement.{statement}
 use Rattle.priority.proofs.best_pending.Tie as tie
 

@@ -1,5 +1,5 @@
 -- The refusals in their order, then the register.
-use mathlib.Core.Path.{_∙_, sym}
+use mathlib.Core.Path.{sym}
 use borrow.Author.Tests.{eq-eqb, ne-eqb}
 use Rattle.rules.specs.Registers.{readCall}
 use borrow.Author.Needs.{needs}
@@ -32,7 +32,9 @@ accepted-requires c κs = search needs
 
 returns : tie.Need-returns
 unfolding readCall
-returns c = λ level. simp (c .accepted .ensures, c .before .before .after-read .ensures (c .before .before .before .before .before .before .before .before .before .before .before .before .before .args .pending .now) (c .before .before .before .before .before .before .before .before .before .before .before .before .before .args .active .now) (c .before .before .before .before .before .before .before .before .before .before .before .before .before .args .enabled .now) level (c .before .before .before .before .before .before .before .before .before .before .before .before .before .args .priority .now) (c .before .before .before .before .before .before .before .before .before .before .before .before .before .args .nest .now), c .before .lane-of .ensures, c .before .before .before .value-of .ensures level, c .before .before .before .before .before .before .before .register-at .ensures, sym (simp (c .before .before .before .before .before .before .before .register-at .ensures, c .before .before .before .before .before .before .is-privileged .ensures) at (c .before .before .before .before .before .access-refusal .ensures)), eq-eqb _ _ (c .before .before .before .before .if1 .taken))
+returns c =
+    let s = c .before .before .before .before .before .before .before .before .before .before .before .before .before in
+    λ level. simp (c .accepted .ensures, c .before .before .after-read .ensures (s .args .pending .now) (s .args .active .now) (s .args .enabled .now) level (s .args .priority .now) (s .args .nest .now), c .before .lane-of .ensures, c .before .before .before .value-of .ensures level, c .before .before .before .before .before .before .before .register-at .ensures, sym (simp (c .before .before .before .before .before .before .before .register-at .ensures, c .before .before .before .before .before .before .is-privileged .ensures) at (c .before .before .before .before .before .access-refusal .ensures)), eq-eqb _ _ (c .before .before .before .before .if1 .taken))
 
 refused-requires : tie.Need-refused-requires
 refused-requires c κs = search needs

@@ -48,7 +48,9 @@ returns-2 c = λ level. c .timer-value .ensures ∙ simp (c .before .before .reg
 
 returns-3 : tie.Need-returns-3
 unfolding valueOf
-returns-3 c = λ level. c .bank-value .ensures level (c .before .before .before .before .before .before .before .before .before .before .before .args .priority .now) (c .before .before .before .before .before .before .before .before .before .before .before .args .nest .now) (c .before .before .before .before .before .before .before .before .before .before .before .args .core) ∙ simp (c .before .before .register2 .given .1)
+returns-3 c =
+    let s = c .before .before .before .before .before .before .before .before .before .before .before in
+    λ level. c .bank-value .ensures level (s .args .priority .now) (s .args .nest .now) (s .args .core) ∙ simp (c .before .before .register2 .given .1)
 
 returns-4 : tie.Need-returns-4
 unfolding valueOf

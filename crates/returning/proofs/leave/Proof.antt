@@ -2,8 +2,6 @@
 use mathlib.Core.Path.{sym}
 use Rattle.rules.specs.Lent.{modelOf}
 use Rattle.returning.proofs.Laws.{sub-one, returned-parts}
-use mathlib.Core.Path.{_∙_, sym}
-use Rattle.rules.specs.Nesting.{repended, returned}
 use borrow.Author.Needs.{needs}
 use Rattle.returning.proofs.leave.Statement.{statement}
 use Rattle.returning.proofs.leave.Tie as tie
@@ -39,7 +37,9 @@ same-length-3 : tie.Need-same-length-3
 same-length-3 c = search needs
 
 returns : tie.Need-returns
-returns c = λ enabled priority. simp (c .returned-masks .ensures, c .before .before .before .before .store-byte .ensures, c .before .before .before .before .before .before .before .before .before .store-flag .ensures, c .before .before .before .before .before .before .before .before .before .before .before .before .before .repend .ensures, c .before .before .before .before .before .before .before .before .before .before .before .before .before .before .before .top-of .ensures, sub-one) (sym (returned-parts (c .before .before .before .before .before .before .before .before .before .before .before .before .before .before .before .before .before .before .before .before .before .args .value) (modelOf (c .before .before .before .before .before .before .before .before .before .before .before .before .before .before .before .before .before .before .before .before .before .args .pending .now) (c .before .before .before .before .before .before .before .before .before .before .before .before .before .before .before .before .before .before .before .before .before .args .active .now) enabled (c .before .before .before .before .before .before .before .before .before .before .before .before .before .before .before .before .before .before .before .before .before .args .level .now) priority (c .before .before .before .before .before .before .before .before .before .before .before .before .before .before .before .before .before .before .before .before .before .args .nest .now) (c .before .before .before .before .before .before .before .before .before .before .before .before .before .before .before .before .before .before .before .before .before .args .core))))
+returns c =
+    let s = c .before .before .before .before .before .before .before .before .before .before .before .before .before .before .before .before .before .before .before .before .before in
+    λ enabled priority. simp (c .returned-masks .ensures, c .before .before .before .before .store-byte .ensures, c .before .before .before .before .before .before .before .before .before .store-flag .ensures, c .before .before .before .before .before .before .before .before .before .before .before .before .before .repend .ensures, c .before .before .before .before .before .before .before .before .before .before .before .before .before .before .before .top-of .ensures, sub-one) (sym (returned-parts (s .args .value) (modelOf (s .args .pending .now) (s .args .active .now) enabled (s .args .level .now) priority (s .args .nest .now) (s .args .core))))
 
 pub leave-spec : {M : Type 1} → statement M
 leave-spec =

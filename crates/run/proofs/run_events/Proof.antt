@@ -66,7 +66,8 @@ execution-requires c κs =
 
 loop-holds : tie.Need-loop-holds Inv-loop μ-loop
 loop-holds c =
-    (going-first _ _ _ _ _ (c .before .before .before .before .before .before .before .before .before .before .before .before .before .pre .usable .sound) (c .before .before .before .before .before .before .before .before .before .before .before .before .before .pre .usable .counted), toZ-ofZ (search needs) ∙ c .execution .ensures ∙ execution-nest (c .before .before .before .before .before .before .before .before .before .before .before .before .before .pre .usable .sound))
+    let s = c .before .before .before .before .before .before .before .before .before .before .before .before .before in
+    (going-first _ _ _ _ _ (s .pre .usable .sound) (s .pre .usable .counted), toZ-ofZ (search needs) ∙ c .execution .ensures ∙ execution-nest (s .pre .usable .sound))
 
 sub-loop : tie.Need-sub-loop Inv-loop μ-loop
 sub-loop c = omega (arith, c .loop .inv .0 .within)

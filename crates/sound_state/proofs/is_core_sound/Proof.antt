@@ -1,7 +1,6 @@
 -- By the definition's own tests, in its order.
 use mathlib.Core.Path.{_∙_, sym}
-use borrow.Author.Tests.{lt-ltb, le-ltb, eq-eqb, ne-eqb}
-use borrow.Author.Tests.{not-true, not-false}
+use borrow.Author.Tests.{lt-ltb, le-ltb, eq-eqb, ne-eqb, not-true, not-false}
 use borrow.Author.Needs.{needs}
 use Rattle.sound_state.proofs.is_core_sound.Statement.{statement}
 use Rattle.sound_state.proofs.is_core_sound.Tie as tie

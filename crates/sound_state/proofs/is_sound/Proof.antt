@@ -16,21 +16,27 @@ unfolding isSound
 returns c = simp (sym (c .before .is-sized .ensures (c .before .before .before .before .before .before .before .before .args .core)) ∙ not-true _ (c .if1 .taken))
 
 sound-flags-requires : tie.Need-sound-flags-requires
-sound-flags-requires c κs = let z = (sized (c .before .before .before .before .before .before .before .before .args .chip) (modelOf (c .before .before .before .before .before .before .before .before .args .pending .now) (c .before .before .before .before .before .before .before .before .args .active .now) (c .before .before .before .before .before .before .before .before .args .enabled .now) (c .before .before .before .before .before .before .before .before .args .level .now) (c .before .before .before .before .before .before .before .before .args .priority .now) (c .before .before .before .before .before .before .before .before .args .nest .now) (c .before .before .before .before .before .before .before .before .args .core)) (sym (c .before .is-sized .ensures (c .before .before .before .before .before .before .before .before .args .core)) ∙ not-false _ (c .if1 .left))) in (z .pending, z .active, z .enabled, z .level)
+sound-flags-requires c κs =
+    let s = c .before .before .before .before .before .before .before .before in
+    let z = (sized (s .args .chip) (modelOf (s .args .pending .now) (s .args .active .now) (s .args .enabled .now) (s .args .level .now) (s .args .priority .now) (s .args .nest .now) (s .args .core)) (sym (c .before .is-sized .ensures (s .args .core)) ∙ not-false _ (c .if1 .left))) in (z .pending, z .active, z .enabled, z .level)
 
 returns-2 : tie.Need-returns-2
 unfolding isSound
 returns-2 c = simp (sym (c .before .before .before .is-sized .ensures (c .before .before .before .before .before .before .before .before .before .before .args .core)) ∙ not-false _ (c .before .before .if1 .left), sym (c .before .sound-flags .ensures) ∙ not-true _ (c .if2 .taken))
 
 bytes-sound-requires : tie.Need-bytes-sound-requires
-bytes-sound-requires c κs = ((sized (c .before .before .before .before .before .before .before .before .before .before .args .chip) (modelOf (c .before .before .before .before .before .before .before .before .before .before .args .pending .now) (c .before .before .before .before .before .before .before .before .before .before .args .active .now) (c .before .before .before .before .before .before .before .before .before .before .args .enabled .now) (c .before .before .before .before .before .before .before .before .before .before .args .level .now) (c .before .before .before .before .before .before .before .before .before .before .args .priority .now) (c .before .before .before .before .before .before .before .before .before .before .args .nest .now) (c .before .before .before .before .before .before .before .before .before .before .args .core)) (sym (c .before .before .before .is-sized .ensures (c .before .before .before .before .before .before .before .before .before .before .args .core)) ∙ not-false _ (c .before .before .if1 .left))) .priority, c .before .before .before .before .before .before .before .before .before .before .pre)
+bytes-sound-requires c κs =
+    let s = c .before .before .before .before .before .before .before .before .before .before in
+    ((sized (s .args .chip) (modelOf (s .args .pending .now) (s .args .active .now) (s .args .enabled .now) (s .args .level .now) (s .args .priority .now) (s .args .nest .now) (s .args .core)) (sym (c .before .before .before .is-sized .ensures (s .args .core)) ∙ not-false _ (c .before .before .if1 .left))) .priority, s .pre)
 
 returns-3 : tie.Need-returns-3
 unfolding isSound
 returns-3 c = simp (sym (c .before .before .before .before .before .is-sized .ensures (c .before .before .before .before .before .before .before .before .before .before .before .before .args .core)) ∙ not-false _ (c .before .before .before .before .if1 .left), sym (c .before .before .before .sound-flags .ensures) ∙ not-false _ (c .before .before .if2 .left), sym (c .before .bytes-sound .ensures) ∙ not-true _ (c .if3 .taken))
 
 sound-nest-requires : tie.Need-sound-nest-requires
-sound-nest-requires c κs = let z = (sized (c .before .before .before .before .before .before .before .before .before .before .before .before .args .chip) (modelOf (c .before .before .before .before .before .before .before .before .before .before .before .before .args .pending .now) (c .before .before .before .before .before .before .before .before .before .before .before .before .args .active .now) (c .before .before .before .before .before .before .before .before .before .before .before .before .args .enabled .now) (c .before .before .before .before .before .before .before .before .before .before .before .before .args .level .now) (c .before .before .before .before .before .before .before .before .before .before .before .before .args .priority .now) (c .before .before .before .before .before .before .before .before .before .before .before .before .args .nest .now) (c .before .before .before .before .before .before .before .before .before .before .before .before .args .core)) (sym (c .before .before .before .before .before .is-sized .ensures (c .before .before .before .before .before .before .before .before .before .before .before .before .args .core)) ∙ not-false _ (c .before .before .before .before .if1 .left))) in (z .active, z .nest)
+sound-nest-requires c κs =
+    let s = c .before .before .before .before .before .before .before .before .before .before .before .before in
+    let z = (sized (s .args .chip) (modelOf (s .args .pending .now) (s .args .active .now) (s .args .enabled .now) (s .args .level .now) (s .args .priority .now) (s .args .nest .now) (s .args .core)) (sym (c .before .before .before .before .before .is-sized .ensures (s .args .core)) ∙ not-false _ (c .before .before .before .before .if1 .left))) in (z .active, z .nest)
 
 returns-4 : tie.Need-returns-4
 unfolding isSound

@@ -118,19 +118,25 @@ same-length-12 : tie.Need-same-length-12
 same-length-12 c = search needs
 
 returns-3 : tie.Need-returns-3
-returns-3 c = c .before .before .before .before .line .ensures (c .before .before .before .before .before .before .before .before .before .before .before .before .before .before .before .before .args .active .now) (c .before .before .before .before .before .before .before .before .before .before .before .before .before .before .before .before .args .enabled .now) (c .before .before .before .before .before .before .before .before .before .before .before .before .before .before .before .before .args .priority .now) (c .before .before .before .before .before .before .before .before .before .before .before .before .before .before .before .before .args .nest .now) ∙ simp (c .before .before .before .before .before .before .before .before .event3 .given .1)
+returns-3 c =
+    let s = c .before .before .before .before .before .before .before .before .before .before .before .before .before .before .before .before in
+    c .before .before .before .before .line .ensures (s .args .active .now) (s .args .enabled .now) (s .args .priority .now) (s .args .nest .now) ∙ simp (c .before .before .before .before .before .before .before .before .event3 .given .1)
 
 same-length-13 : tie.Need-same-length-13
 same-length-13 c = search needs
 
 returns-4 : tie.Need-returns-4
-returns-4 c = c .before .before .nmi .ensures (c .before .before .before .before .before .before .before .before .before .before .before .before .args .active .now) (c .before .before .before .before .before .before .before .before .before .before .before .before .args .enabled .now) (c .before .before .before .before .before .before .before .before .before .before .before .before .args .level .now) (c .before .before .before .before .before .before .before .before .before .before .before .before .args .priority .now) (c .before .before .before .before .before .before .before .before .before .before .before .before .args .nest .now) ∙ simp (c .before .before .before .before .enum-told .given .1)
+returns-4 c =
+    let s = c .before .before .before .before .before .before .before .before .before .before .before .before in
+    c .before .before .nmi .ensures (s .args .active .now) (s .args .enabled .now) (s .args .level .now) (s .args .priority .now) (s .args .nest .now) ∙ simp (c .before .before .before .before .enum-told .given .1)
 
 same-length-14 : tie.Need-same-length-14
 same-length-14 c = search needs
 
 returns-5 : tie.Need-returns-5
-returns-5 c = c .before .before .tick .ensures (c .before .before .before .before .before .before .before .before .before .before .before .before .args .active .now) (c .before .before .before .before .before .before .before .before .before .before .before .before .args .enabled .now) (c .before .before .before .before .before .before .before .before .before .before .before .before .args .level .now) (c .before .before .before .before .before .before .before .before .before .before .before .before .args .priority .now) (c .before .before .before .before .before .before .before .before .before .before .before .before .args .nest .now) ∙ simp (c .before .before .before .before .enum-told2 .given .1)
+returns-5 c =
+    let s = c .before .before .before .before .before .before .before .before .before .before .before .before in
+    c .before .before .tick .ensures (s .args .active .now) (s .args .enabled .now) (s .args .level .now) (s .args .priority .now) (s .args .nest .now) ∙ simp (c .before .before .before .before .enum-told2 .given .1)
 
 same-length-15 : tie.Need-same-length-15
 same-length-15 c = search needs
@@ -142,7 +148,9 @@ same-length-17 : tie.Need-same-length-17
 same-length-17 c = search needs
 
 returns-6 : tie.Need-returns-6
-returns-6 c = c .before .before .fault .ensures (c .before .before .before .before .before .before .before .before .before .before .before .before .before .before .before .args .active .now) (c .before .before .before .before .before .before .before .before .before .before .before .before .before .before .before .args .level .now) (c .before .before .before .before .before .before .before .before .before .before .before .before .before .before .before .args .nest .now) (toZ-ofZ (c .before .before .before .before .before .before .before .before .before .before .before .before .before .before .before .fits .limit) ∙ c .before .before .before .before .before .before .before .before .before .before .before .before .before .before .before .pre .priority) ∙ simp (c .before .before .before .before .before .before .before .event4 .given .1)
+returns-6 c =
+    let s = c .before .before .before .before .before .before .before .before .before .before .before .before .before .before .before in
+    c .before .before .fault .ensures (s .args .active .now) (s .args .level .now) (s .args .nest .now) (toZ-ofZ (s .fits .limit) ∙ s .pre .priority) ∙ simp (c .before .before .before .before .before .before .before .event4 .given .1)
 
 same-length-18 : tie.Need-same-length-18
 same-length-18 c = search needs
@@ -154,10 +162,14 @@ same-length-20 : tie.Need-same-length-20
 same-length-20 c = search needs
 
 returns-7 : tie.Need-returns-7
-returns-7 c = c .before .before .svc .ensures (c .before .before .before .before .before .before .before .before .before .before .before .before .before .before .args .active .now) (c .before .before .before .before .before .before .before .before .before .before .before .before .before .before .args .level .now) (c .before .before .before .before .before .before .before .before .before .before .before .before .before .before .args .nest .now) (toZ-ofZ (c .before .before .before .before .before .before .before .before .before .before .before .before .before .before .fits .limit) ∙ c .before .before .before .before .before .before .before .before .before .before .before .before .before .before .pre .priority) ∙ simp (c .before .before .before .before .before .before .enum-told3 .given .1)
+returns-7 c =
+    let s = c .before .before .before .before .before .before .before .before .before .before .before .before .before .before in
+    c .before .before .svc .ensures (s .args .active .now) (s .args .level .now) (s .args .nest .now) (toZ-ofZ (s .fits .limit) ∙ s .pre .priority) ∙ simp (c .before .before .before .before .before .before .enum-told3 .given .1)
 
 returns-8 : tie.Need-returns-8
-returns-8 c = c .special .ensures (c .before .before .before .before .before .before .before .before .before .before .args .pending .now) (c .before .before .before .before .before .before .before .before .before .before .args .active .now) (c .before .before .before .before .before .before .before .before .before .before .args .enabled .now) (c .before .before .before .before .before .before .before .before .before .before .args .level .now) (c .before .before .before .before .before .before .before .before .before .before .args .priority .now) (c .before .before .before .before .before .before .before .before .before .before .args .nest .now) (toZ-ofZ (c .before .before .before .before .before .before .before .before .before .before .fits .limit) ∙ c .before .before .before .before .before .before .before .before .before .before .pre .priority) ∙ simp (c .before .before .event5 .given .1)
+returns-8 c =
+    let s = c .before .before .before .before .before .before .before .before .before .before in
+    c .special .ensures (s .args .pending .now) (s .args .active .now) (s .args .enabled .now) (s .args .level .now) (s .args .priority .now) (s .args .nest .now) (toZ-ofZ (s .fits .limit) ∙ s .pre .priority) ∙ simp (c .before .before .event5 .given .1)
 
 same-length-21 : tie.Need-same-length-21
 same-length-21 c = search needs
@@ -175,7 +187,9 @@ same-length-25 : tie.Need-same-length-25
 same-length-25 c = search needs
 
 returns-9 : tie.Need-returns-9
-returns-9 c = c .before .before .before .before .before .before .entry .ensures (c .before .before .before .before .before .before .before .before .before .before .before .before .before .before .before .before .before .before .before .before .args .level .now) (toZ-ofZ (c .before .before .before .before .before .before .before .before .before .before .before .before .before .before .before .before .before .before .before .before .fits .limit) ∙ c .before .before .before .before .before .before .before .before .before .before .before .before .before .before .before .before .before .before .before .before .pre .priority) ∙ simp (c .before .before .before .before .before .before .before .before .before .before .before .before .enum-told4 .given .1)
+returns-9 c =
+    let s = c .before .before .before .before .before .before .before .before .before .before .before .before .before .before .before .before .before .before .before .before in
+    c .before .before .before .before .before .before .entry .ensures (s .args .level .now) (toZ-ofZ (s .fits .limit) ∙ s .pre .priority) ∙ simp (c .before .before .before .before .before .before .before .before .before .before .before .before .enum-told4 .given .1)
 
 same-length-26 : tie.Need-same-length-26
 same-length-26 c = search needs
@@ -193,7 +207,9 @@ returns-10 : tie.Need-returns-10
 returns-10 c = c .before .before .before .before .before .before .return- .ensures (c .before .before .before .before .before .before .before .before .before .before .before .before .before .before .before .before .before .before .before .before .args .enabled .now) (c .before .before .before .before .before .before .before .before .before .before .before .before .before .before .before .before .before .before .before .before .args .priority .now) ∙ simp (c .before .before .before .before .before .before .before .before .before .before .before .before .event6 .given .1)
 
 returns-11 : tie.Need-returns-11
-returns-11 c = c .access .ensures (c .before .before .before .before .before .before .before .before .before .before .before .args .pending .now) (c .before .before .before .before .before .before .before .before .before .before .before .args .active .now) (c .before .before .before .before .before .before .before .before .before .before .before .args .enabled .now) (c .before .before .before .before .before .before .before .before .before .before .before .args .level .now) (c .before .before .before .before .before .before .before .before .before .before .before .args .priority .now) (c .before .before .before .before .before .before .before .before .before .before .before .args .nest .now) (toZ-ofZ (c .before .before .before .before .before .before .before .before .before .before .before .fits .limit) ∙ c .before .before .before .before .before .before .before .before .before .before .before .pre .priority) ∙ simp (c .before .access-number .ensures, c .before .before .before .event7 .given .1)
+returns-11 c =
+    let s = c .before .before .before .before .before .before .before .before .before .before .before in
+    c .access .ensures (s .args .pending .now) (s .args .active .now) (s .args .enabled .now) (s .args .level .now) (s .args .priority .now) (s .args .nest .now) (toZ-ofZ (s .fits .limit) ∙ s .pre .priority) ∙ simp (c .before .access-number .ensures, c .before .before .before .event7 .given .1)
 
 pub act-spec : {M : Type 1} → statement M
 act-spec =

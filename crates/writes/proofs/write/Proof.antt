@@ -1,5 +1,5 @@
 -- The refusals in their order, then the register.
-use mathlib.Core.Path.{_∙_, sym}
+use mathlib.Core.Path.{sym}
 use borrow.Author.Tests.{eq-eqb, ne-eqb}
 use Rattle.rules.specs.Registers.{written, writeCall}
 use borrow.Author.Needs.{needs}
@@ -48,7 +48,9 @@ same-length-4 c = search needs
 
 returns-2 : tie.Need-returns-2
 unfolding writeCall written
-returns-2 c = λ nest. simp (c .accepted2 .ensures, c .before .before .before .byte-written .ensures (c .before .before .before .before .before .before .before .before .before .before .before .before .before .before .before .args .pending .now) (c .before .before .before .before .before .before .before .before .before .before .before .before .before .before .before .args .active .now) (c .before .before .before .before .before .before .before .before .before .before .before .before .before .before .before .args .enabled .now) (c .before .before .before .before .before .before .before .before .before .before .before .before .before .before .before .args .level .now) nest (c .before .before .before .before .before .before .before .before .before .before .before .before .before .before .before .args .core), c .before .before .before .before .before .before .before .before .before .register-at .ensures, sym (simp (c .before .before .before .before .before .before .before .before .before .register-at .ensures, c .before .before .before .before .before .before .before .before .may-write .ensures, ne-eqb _ _ (c .before .before .before .before .before .if2 .left)) at (c .before .before .before .before .before .before .before .access-refusal .ensures)), eq-eqb _ _ (c .before .before .before .before .before .before .if1 .taken), ne-eqb _ _ (c .before .before .before .before .before .if2 .left))
+returns-2 c =
+    let s = c .before .before .before .before .before .before .before .before .before .before .before .before .before .before .before in
+    λ nest. simp (c .accepted2 .ensures, c .before .before .before .byte-written .ensures (s .args .pending .now) (s .args .active .now) (s .args .enabled .now) (s .args .level .now) nest (s .args .core), c .before .before .before .before .before .before .before .before .before .register-at .ensures, sym (simp (c .before .before .before .before .before .before .before .before .before .register-at .ensures, c .before .before .before .before .before .before .before .before .may-write .ensures, ne-eqb _ _ (c .before .before .before .before .before .if2 .left)) at (c .before .before .before .before .before .before .before .access-refusal .ensures)), eq-eqb _ _ (c .before .before .before .before .before .before .if1 .taken), ne-eqb _ _ (c .before .before .before .before .before .if2 .left))
 
 refused-requires : tie.Need-refused-requires
 refused-requires c κs = search needs

@@ -1,5 +1,4 @@
 -- The timer decides; a fall to 0 with TICKINT makes SysTick pending.
-use mathlib.Core.Path.{_∙_, sym}
 use Rattle.rules.specs.Events.{tickCall}
 use borrow.Author.Needs.{needs}
 use Rattle.lines.proofs.ticks.tick.Statement.{statement}

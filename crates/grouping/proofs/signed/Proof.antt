@@ -1,9 +1,9 @@
 -- A byte is far below 2 ^ 31.
 use native.Mathlib.Omega.{arith}
-use Rattle.priority.proofs.Laws.{toZ-pos}
+use Rattle.grouping.proofs.Laws.{toZ-pos}
 use borrow.Author.Needs.{needs}
-use Rattle.priority.proofs.signed.Statement.{statement}
-use Rattle.priority.proofs.signed.Tie as tie
+use Rattle.grouping.proofs.signed.Statement.{statement}
+use Rattle.grouping.proofs.signed.Tie as tie
 
 cast-result : tie.Need-cast-result
 cast-result c = search needs

@@ -3,9 +3,9 @@ use Prim.Native.Nat.{_+_}
 use mathlib.Core.Path.{sym}
 use native.Mathlib.Omega.{arith}
 use borrow.Author.Needs.{needs}
-use Rattle.priority.proofs.Laws.{cut-exact, cut-whole}
-use Rattle.priority.proofs.group_of.Statement.{statement}
-use Rattle.priority.proofs.group_of.Tie as tie
+use Rattle.grouping.proofs.Laws.{cut-exact, cut-whole}
+use Rattle.grouping.proofs.group_of.Statement.{statement}
+use Rattle.grouping.proofs.group_of.Tie as tie
 
 returns : tie.Need-returns
 returns c = sym (cut-whole (c .before .args .b) (c .before .args .p + 1) (c .before .fits .b .fits) (omega arith))

@@ -7,11 +7,11 @@ use lib.IntN.{pos, natAbs}
 use mir.Syntax.{w32}
 use mir.Val.{SFits}
 use mir.Facts.{toZ-ofZ}
-use Rattle.priority.specs.Priority.{groupOf, grouped}
-use Rattle.priority.proofs.Laws.{not-negative, negative, toZ-pos}
+use Rattle.grouping.specs.Grouping.{groupOf, grouped}
+use Rattle.grouping.proofs.Laws.{not-negative, negative, toZ-pos}
 use borrow.Author.Needs.{needs}
-use Rattle.priority.proofs.grouped.Statement.{statement}
-use Rattle.priority.proofs.grouped.Tie as tie
+use Rattle.grouping.proofs.grouped.Statement.{statement}
+use Rattle.grouping.proofs.grouped.Tie as tie
 
 whole : (c : tie.Else1) → c .before .args .z ≡ pos (natAbs (c .before .args .z))
 whole c = not-negative (c .before .args .z) (simp (toZ-ofZ (c .before .fits .z)) at (c .if1 .left))

@@ -4,8 +4,8 @@ use lib.ListN.{List·getD-eq-default}
 use borrow.Author.Tests.{eq-eqb, ne-eqb}
 use mir.Facts.{toZ-ofZ}
 use borrow.Author.Needs.{needs}
-use Rattle.priority.proofs.full_priority.Statement.{statement}
-use Rattle.priority.proofs.full_priority.Tie as tie
+use Rattle.grouping.proofs.full_priority.Statement.{statement}
+use Rattle.grouping.proofs.full_priority.Tie as tie
 
 returns : tie.Need-returns
 returns c = simp (eq-eqb _ _ (c .if1 .taken))

@@ -3,8 +3,8 @@ use mathlib.Core.Path.{_∙_}
 use mir.Syntax.{w32}
 use mir.Facts.{toZ-ofZ}
 use borrow.Author.Needs.{needs}
-use Rattle.priority.proofs.group_priority.Statement.{statement}
-use Rattle.priority.proofs.group_priority.Tie as tie
+use Rattle.grouping.proofs.group_priority.Statement.{statement}
+use Rattle.grouping.proofs.group_priority.Tie as tie
 
 full-priority-requires : tie.Need-full-priority-requires
 full-priority-requires c κs = search needs

@@ -1,10 +1,10 @@
 -- A shift down and up again clears the low bits, and leaves a byte.
 use Prim.Native.Nat.{_-_, _%_}
 use native.Mathlib.Omega.{arith}
-use Rattle.priority.proofs.Laws.{cut-exact, cut-byte}
+use Rattle.grouping.proofs.Laws.{cut-exact, cut-byte}
 use borrow.Author.Needs.{needs}
-use Rattle.priority.proofs.kept_byte.Statement.{statement}
-use Rattle.priority.proofs.kept_byte.Tie as tie
+use Rattle.grouping.proofs.kept_byte.Statement.{statement}
+use Rattle.grouping.proofs.kept_byte.Tie as tie
 
 sub-cut : tie.Need-sub-cut
 sub-cut c = search needs
