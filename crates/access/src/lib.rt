@@ -19,10 +19,10 @@ pub fn access(core: Core, limit: i32, kind: u32, width: u32, address: u32) -> Ou
     if 2 < kind {
         return refused(core, 6);
     }
-    if map::access::fits_access(kind, width) {
-        if map::access::is_aligned(address, width) {
+    if map::checks::fits_access(kind, width) {
+        if map::checks::is_aligned(address, width) {
             let guard = core.guard;
-            let purpose = map::access::purpose_of(kind);
+            let purpose = map::checks::purpose_of(kind);
             let verdict = verdicts::verdict(
                 guard,
                 purpose,

@@ -44,7 +44,7 @@ fn raised(
     ensures { λ r. ⌜ ((active level : List Bool) (nest : List ℕ) → limit ≡ execution (modelOf (now (pending .entry)) active (now (enabled .entry)) level (now (priority .entry)) nest core) → answerOf r (now (pending .exit)) active (now (enabled .entry)) level (now (priority .entry)) nest ≡ raised (modelOf (now (pending .entry)) active (now (enabled .entry)) level (now (priority .entry)) nest core) n status) ⌝ }
 {
     if escalates(enabled, priority, core.group, limit, n) {
-        let forced = system::faults::forced(status);
+        let forced = system::status::forced(status);
         core.system = forced;
         store_flag(pending, 3, true);
         return accepted(core, 3);
@@ -72,7 +72,7 @@ fn fault_at(
         return refused(core, 10);
     }
     let system = core.system;
-    let status = system::faults::fault_status(system, bit, address);
+    let status = system::status::fault_status(system, bit, address);
     raised(pending, enabled, priority, core, limit, n, status)
 }
 
@@ -87,7 +87,7 @@ pub fn fault(
 ) -> Outcome
     ensures { λ r. ⌜ ((active level : List Bool) (nest : List ℕ) → limit ≡ execution (modelOf (now (pending .entry)) active (now (enabled .entry)) level (now (priority .entry)) nest core) → answerOf r (now (pending .exit)) active (now (enabled .entry)) level (now (priority .entry)) nest ≡ faultCall (modelOf (now (pending .entry)) active (now (enabled .entry)) level (now (priority .entry)) nest core) bit address) ⌝ }
 {
-    let found = system::faults::fault_exception(bit);
+    let found = system::status::fault_exception(bit);
     match found {
         Found::At(n) => fault_at(pending, enabled, priority, core, limit, n, bit, address),
         Found::Nothing => refused(core, 7),

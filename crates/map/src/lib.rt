@@ -7,7 +7,7 @@ ghost use Rattle.mpu.specs.Registers.{mpuRegisterAt};
 ghost use Rattle.rules.specs.declared.Register.the-variants.{Flags, Priority};
 ghost use Rattle.rules.specs.Map.{flagWords, byteWords, inBlock, firstFlag, guardRegister, blockRegister, registerAt, widthRefusal};
 
-pub mod access;
+pub mod checks;
 
 use mpu::MpuRegister;
 use rules::Bank;

@@ -141,7 +141,7 @@ pub fn read(
     ensures { λ r. ⌜ ((level : List Bool) → answerOf r (now (pending .entry)) (now (active .entry)) (now (enabled .entry)) level (now (priority .entry)) (now (nest .entry)) ≡ readCall chip (modelOf (now (pending .entry)) (now (active .entry)) (now (enabled .entry)) level (now (priority .entry)) (now (nest .entry)) core) width address) ⌝ }
 {
     let register = map::register_at(chip, address - address % 4);
-    let refusal = map::access::access_refusal(register, is_privileged(core), width, address);
+    let refusal = map::checks::access_refusal(register, is_privileged(core), width, address);
     if refusal == 0 {
         let word = value_of(
             chip,
@@ -154,7 +154,7 @@ pub fn read(
             core,
         );
         let next = after_read(core, register);
-        return accepted(next, map::access::lane_of(width, address, word));
+        return accepted(next, map::checks::lane_of(width, address, word));
     }
     refused(core, refusal)
 }

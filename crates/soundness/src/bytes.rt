@@ -26,26 +26,17 @@ fn byte_sound(chip: Chip, byte: u8, n: usize) -> bool
     false
 }
 
-fn and_byte(ok: bool, chip: Chip, byte: u8, n: usize) -> bool
-    requires { ⌜ chip .bits ≤ 8 ⌝ }
-    ensures { λ r. ⌜ r ≡ (eqb (keptByte (chip .bits) byte) byte && (hasByte chip n || eqb byte 0) && ok) ⌝ }
-{
-    if byte_sound(chip, byte, n) {
-        return ok;
-    }
-    false
-}
-
 // The array of a state has the chip's length.
 pub fn bytes_sound(chip: Chip, priority: &[u8]) -> bool
     requires { ⌜ (length (now priority) ≡ flagCount chip) × (chip .bits ≤ 8) ⌝ }
     ensures { λ r. ⌜ r ≡ every (byteSound chip (now (priority .entry))) (flagCount chip) ⌝ }
 {
-    let mut ok = true;
     let mut n = 0;
     while n < priority.len() {
-        ok = and_byte(ok, chip, priority[n], n);
+        if !byte_sound(chip, priority[n], n) {
+            return false;
+        }
         n += 1;
     }
-    ok
+    true
 }

@@ -3,34 +3,31 @@ use exceptions::stands;
 use rules::Chip;
 use rules::Place;
 ghost use mathlib.Core.Path.{_≡_};
-ghost use mathlib.Core.Bool.{_&&_};
 ghost use lib.ListN.{length};
 ghost use Rattle.rules.specs.Chip.{flagCount, stands};
 ghost use Rattle.rules.specs.Sound.{implies, every, flagSound, soundFlags};
 
-// One step of the test. A flag that is not set costs one test.
-fn and_flag(ok: bool, flag: bool, chip: Chip, place: Place, n: usize) -> bool
-    ensures { λ r. ⌜ r ≡ (implies flag (stands chip place n) && ok) ⌝ }
+// A flag that is not set costs one test.
+fn flag_fits(flag: bool, chip: Chip, place: Place, n: usize) -> bool
+    ensures { λ r. ⌜ r ≡ implies flag (stands chip place n) ⌝ }
 {
     if flag {
-        if stands(chip, place, n) {
-            return ok;
-        }
-        return false;
+        return stands(chip, place, n);
     }
-    ok
+    true
 }
 
 pub fn flags_sound(chip: Chip, place: Place, flags: &[bool]) -> bool
     ensures { λ r. ⌜ r ≡ every (flagSound chip place (now (flags .entry))) (length (now (flags .entry))) ⌝ }
 {
-    let mut ok = true;
     let mut n = 0;
     while n < flags.len() {
-        ok = and_flag(ok, flags[n], chip, place, n);
+        if !flag_fits(flags[n], chip, place, n) {
+            return false;
+        }
         n += 1;
     }
-    ok
+    true
 }
 
 // The arrays of a state have the chip's lengths.

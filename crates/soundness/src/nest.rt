@@ -10,28 +10,27 @@ ghost use Rattle.rules.specs.Chip.{flagCount, exceptionCount, isIn};
 ghost use Rattle.rules.specs.Model.{down};
 ghost use Rattle.rules.specs.Sound.{implies, every, nestedSound, allOn, allDistinct, unusedSound, soundNest};
 
-fn and_unused(ok: bool, used: bool, entry: u8) -> bool
-    ensures { λ r. ⌜ r ≡ ((used || eqb entry 0) && ok) ⌝ }
+// A place that is not in use holds 0.
+fn place_fits(used: bool, entry: u8) -> bool
+    ensures { λ r. ⌜ r ≡ (used || eqb entry 0) ⌝ }
 {
     if used {
-        return ok;
+        return true;
     }
-    if entry == 0 {
-        return ok;
-    }
-    false
+    entry == 0
 }
 
 fn unused_sound(nest: &[u8], depth: usize) -> bool
     ensures { λ r. ⌜ r ≡ every (unusedSound (now (nest .entry)) depth) (length (now (nest .entry))) ⌝ }
 {
-    let mut ok = true;
     let mut i = 0;
     while i < nest.len() {
-        ok = and_unused(ok, i < depth, nest[i]);
+        if !place_fits(i < depth, nest[i]) {
+            return false;
+        }
         i += 1;
     }
-    ok
+    true
 }
 
 fn or_equal(found: bool, n: usize, entry: u8) -> bool
@@ -58,17 +57,14 @@ fn is_nested(nest: &[u8], depth: usize, n: usize) -> bool
 }
 
 // The nest is searched only for an active exception.
-fn and_nested(ok: bool, flag: bool, nest: &[u8], depth: usize, n: usize) -> bool
+fn active_fits(flag: bool, nest: &[u8], depth: usize, n: usize) -> bool
     requires { ⌜ depth ≤ length (now nest) ⌝ }
-    ensures { λ r. ⌜ r ≡ (implies flag (isIn n (down (now (nest .entry)) depth)) && ok) ⌝ }
+    ensures { λ r. ⌜ r ≡ implies flag (isIn n (down (now (nest .entry)) depth)) ⌝ }
 {
     if flag {
-        if is_nested(nest, depth, n) {
-            return ok;
-        }
-        return false;
+        return is_nested(nest, depth, n);
     }
-    ok
+    true
 }
 
 // Each active exception is nested.
@@ -76,13 +72,14 @@ fn active_nested(active: &[bool], nest: &[u8], depth: usize) -> bool
     requires { ⌜ depth ≤ length (now nest) ⌝ }
     ensures { λ r. ⌜ r ≡ every (nestedSound (now (active .entry)) (down (now (nest .entry)) depth)) (length (now (active .entry))) ⌝ }
 {
-    let mut ok = true;
     let mut n = 0;
     while n < active.len() {
-        ok = and_nested(ok, active[n], nest, depth, n);
+        if !active_fits(active[n], nest, depth, n) {
+            return false;
+        }
         n += 1;
     }
-    ok
+    true
 }
 
 fn and_active(ok: bool, active: &[bool], entry: u8) -> bool

@@ -200,7 +200,7 @@ pub fn write(
 {
     let register = map::register_at(chip, address - address % 4);
     let allowed = may_write(core, width, address);
-    let refusal = map::access::access_refusal(register, allowed, width, address);
+    let refusal = map::checks::access_refusal(register, allowed, width, address);
     if refusal == 0 {
         if width == 4 {
             let next = word_written(

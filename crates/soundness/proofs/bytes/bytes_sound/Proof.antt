@@ -1,30 +1,37 @@
--- After n bytes the answer is that of these n.
+-- One byte that fails decides; else all are tried.
 use Prim.Native.Nat.{_≤_, _-_}
-use mathlib.Core.Path.{_≡_, refl, ap, _∙_}
+use mathlib.Core.Path.{_≡_, refl, sym, ap, _∙_}
+use mathlib.Core.Bool.{true}
 use native.Mathlib.Nat.{le-antisymm}
 use native.Mathlib.Numerals.{add-one}
-use lib.ListN.{length}
-use Rattle.rules.specs.Sound.{every, byteSound}
-use borrow.Author.Needs.{needs}
 use native.Mathlib.Omega.{arith}
+use lib.ListN.{length}
+use borrow.Author.Tests.{not-true, not-false}
+use borrow.Author.Needs.{needs}
+use Rattle.rules.specs.Sound.{every, byteSound}
+use Rattle.soundness.proofs.Laws.{every-false}
 use Rattle.soundness.proofs.bytes.bytes_sound.Statement.{statement}
 use Rattle.soundness.proofs.bytes.bytes_sound.Tie as tie
 
 abbrev Inv-loop : tie.InvT-loop
-Inv-loop chip priority ok₀ n₀ ok n = (n ≤ length priority) × (ok ≡ every (byteSound chip priority) n)
+Inv-loop chip priority n₀ n = (n ≤ length priority) × (every (byteSound chip priority) n ≡ true)
 
 abbrev μ-loop : tie.MeasureT-loop
-μ-loop chip priority ok₀ n₀ ok n = length priority - n
+μ-loop chip priority n₀ n = length priority - n
 
 loop-holds : tie.Need-loop-holds Inv-loop μ-loop
 unfolding every
 loop-holds c = (omega arith, refl)
 
-shared-slice-read-and-byte : tie.Need-shared-slice-read-and-byte Inv-loop μ-loop
-shared-slice-read-and-byte c = omega arith
+shared-slice-read-byte-sound : tie.Need-shared-slice-read-byte-sound Inv-loop μ-loop
+shared-slice-read-byte-sound c = omega arith
 
-and-byte-requires : tie.Need-and-byte-requires Inv-loop μ-loop
-and-byte-requires c κs = search needs
+byte-sound-requires : tie.Need-byte-sound-requires Inv-loop μ-loop
+byte-sound-requires c κs = search needs
+
+returns : tie.Need-returns Inv-loop μ-loop
+unfolding byteSound
+returns c = sym (every-false _ (c .before .before .before .before .loop .n) _ (rw (sym (c .before .before .before .before .before .before .pre .0)) (c .before .before .before .loop-test .taken)) (sym (c .before .byte-sound .ensures) ∙ not-true _ (c .if1 .taken)))
 
 add-n : tie.Need-add-n Inv-loop μ-loop
 add-n c = omega arith
@@ -34,10 +41,10 @@ loop-less c = omega arith
 
 loop-again : tie.Need-loop-again Inv-loop μ-loop
 unfolding every byteSound
-loop-again c = (omega arith, c .and-byte .ensures ∙ simp (add-one, c .before .before .before .loop .inv .1))
+loop-again c = (omega arith, simp (add-one, sym (c .before .byte-sound .ensures) ∙ not-false _ (c .if1 .left), c .before .before .before .before .loop .inv .1))
 
-returns : tie.Need-returns Inv-loop μ-loop
-returns c = c .before .loop .inv .1 ∙ ap (every _) (le-antisymm (c .before .loop .inv .0) (c .loop-test .left) ∙ c .before .before .before .pre .0)
+returns-2 : tie.Need-returns-2 Inv-loop μ-loop
+returns-2 c = sym (ap (every _) (sym (le-antisymm (c .before .loop .inv .0) (c .loop-test .left) ∙ c .before .before .before .pre .0)) ∙ c .before .loop .inv .1)
 
 pub bytes-sound-spec : {M : Type 1} → statement M
 bytes-sound-spec =
@@ -46,9 +53,10 @@ bytes-sound-spec =
     Inv-loop
     μ-loop
     loop-holds
-    shared-slice-read-and-byte
-    and-byte-requires
+    shared-slice-read-byte-sound
+    byte-sound-requires
+    returns
     add-n
     loop-less
     loop-again
-    returns)
+    returns-2)

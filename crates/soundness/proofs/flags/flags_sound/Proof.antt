@@ -1,30 +1,37 @@
--- After n flags the answer is that of these n.
+-- One flag that stands where it may not decides; else all are tried.
 use Prim.Native.Nat.{_≤_, _-_}
-use mathlib.Core.Path.{_≡_, refl, ap, _∙_}
+use mathlib.Core.Path.{_≡_, refl, sym, ap, _∙_}
+use mathlib.Core.Bool.{true}
 use native.Mathlib.Nat.{le-antisymm}
 use native.Mathlib.Numerals.{add-one}
-use lib.ListN.{length}
-use Rattle.rules.specs.Sound.{every, flagSound}
-use borrow.Author.Needs.{needs}
 use native.Mathlib.Omega.{arith}
+use lib.ListN.{length}
+use borrow.Author.Tests.{not-true, not-false}
+use borrow.Author.Needs.{needs}
+use Rattle.rules.specs.Sound.{every, flagSound}
+use Rattle.soundness.proofs.Laws.{every-false}
 use Rattle.soundness.proofs.flags.flags_sound.Statement.{statement}
 use Rattle.soundness.proofs.flags.flags_sound.Tie as tie
 
 abbrev Inv-loop : tie.InvT-loop
-Inv-loop chip place flags ok₀ n₀ ok n = (n ≤ length flags) × (ok ≡ every (flagSound chip place flags) n)
+Inv-loop chip place flags n₀ n = (n ≤ length flags) × (every (flagSound chip place flags) n ≡ true)
 
 abbrev μ-loop : tie.MeasureT-loop
-μ-loop chip place flags ok₀ n₀ ok n = length flags - n
+μ-loop chip place flags n₀ n = length flags - n
 
 loop-holds : tie.Need-loop-holds Inv-loop μ-loop
 unfolding every
 loop-holds c = (omega arith, refl)
 
-shared-slice-read-and-flag : tie.Need-shared-slice-read-and-flag Inv-loop μ-loop
-shared-slice-read-and-flag c = omega arith
+shared-slice-read-flag-fits : tie.Need-shared-slice-read-flag-fits Inv-loop μ-loop
+shared-slice-read-flag-fits c = omega arith
 
-and-flag-requires : tie.Need-and-flag-requires Inv-loop μ-loop
-and-flag-requires c κs = search needs
+flag-fits-requires : tie.Need-flag-fits-requires Inv-loop μ-loop
+flag-fits-requires c κs = search needs
+
+returns : tie.Need-returns Inv-loop μ-loop
+unfolding flagSound
+returns c = sym (every-false _ (c .before .before .before .before .loop .n) _ (c .before .before .before .loop-test .taken) (sym (c .before .flag-fits .ensures) ∙ not-true _ (c .if1 .taken)))
 
 add-n : tie.Need-add-n Inv-loop μ-loop
 add-n c = omega arith
@@ -34,10 +41,10 @@ loop-less c = omega arith
 
 loop-again : tie.Need-loop-again Inv-loop μ-loop
 unfolding every flagSound
-loop-again c = (omega arith, c .and-flag .ensures ∙ simp (add-one, c .before .before .before .loop .inv .1))
+loop-again c = (omega arith, simp (add-one, sym (c .before .flag-fits .ensures) ∙ not-false _ (c .if1 .left), c .before .before .before .before .loop .inv .1))
 
-returns : tie.Need-returns Inv-loop μ-loop
-returns c = c .before .loop .inv .1 ∙ ap (every _) (le-antisymm (c .before .loop .inv .0) (c .loop-test .left))
+returns-2 : tie.Need-returns-2 Inv-loop μ-loop
+returns-2 c = sym (ap (every _) (sym (le-antisymm (c .before .loop .inv .0) (c .loop-test .left))) ∙ c .before .loop .inv .1)
 
 pub flags-sound-spec : {M : Type 1} → statement M
 flags-sound-spec =
@@ -46,9 +53,10 @@ flags-sound-spec =
     Inv-loop
     μ-loop
     loop-holds
-    shared-slice-read-and-flag
-    and-flag-requires
+    shared-slice-read-flag-fits
+    flag-fits-requires
+    returns
     add-n
     loop-less
     loop-again
-    returns)
+    returns-2)

@@ -1,31 +1,38 @@
--- After n flags the answer is that of these n.
+-- One active exception that is not nested decides; else all are tried.
 use Prim.Native.Nat.{_≤_, _-_}
-use mathlib.Core.Path.{_≡_, refl, ap, _∙_}
+use mathlib.Core.Path.{_≡_, refl, sym, ap, _∙_}
+use mathlib.Core.Bool.{true}
 use native.Mathlib.Nat.{le-antisymm}
 use native.Mathlib.Numerals.{add-one}
-use lib.ListN.{length}
-use Rattle.rules.specs.Sound.{every, nestedSound}
-use Rattle.rules.specs.Model.{down}
-use borrow.Author.Needs.{needs}
 use native.Mathlib.Omega.{arith}
+use lib.ListN.{length}
+use borrow.Author.Tests.{not-true, not-false}
+use borrow.Author.Needs.{needs}
+use Rattle.rules.specs.Model.{down}
+use Rattle.rules.specs.Sound.{every, nestedSound}
+use Rattle.soundness.proofs.Laws.{every-false}
 use Rattle.soundness.proofs.nest.active_nested.Statement.{statement}
 use Rattle.soundness.proofs.nest.active_nested.Tie as tie
 
 abbrev Inv-loop : tie.InvT-loop
-Inv-loop active nest depth ok₀ n₀ ok n = (n ≤ length active) × (ok ≡ every (nestedSound active (down nest depth)) n)
+Inv-loop active nest depth n₀ n = (n ≤ length active) × (every (nestedSound active (down nest depth)) n ≡ true)
 
 abbrev μ-loop : tie.MeasureT-loop
-μ-loop active nest depth ok₀ n₀ ok n = length active - n
+μ-loop active nest depth n₀ n = length active - n
 
 loop-holds : tie.Need-loop-holds Inv-loop μ-loop
 unfolding every
 loop-holds c = (omega arith, refl)
 
-shared-slice-read-and-nested : tie.Need-shared-slice-read-and-nested Inv-loop μ-loop
-shared-slice-read-and-nested c = omega arith
+shared-slice-read-active-fits : tie.Need-shared-slice-read-active-fits Inv-loop μ-loop
+shared-slice-read-active-fits c = omega arith
 
-and-nested-requires : tie.Need-and-nested-requires Inv-loop μ-loop
-and-nested-requires c κs = search needs
+active-fits-requires : tie.Need-active-fits-requires Inv-loop μ-loop
+active-fits-requires c κs = search needs
+
+returns : tie.Need-returns Inv-loop μ-loop
+unfolding nestedSound
+returns c = sym (every-false _ (c .before .before .before .before .loop .n) _ (c .before .before .before .loop-test .taken) (sym (c .before .active-fits .ensures) ∙ not-true _ (c .if1 .taken)))
 
 add-n : tie.Need-add-n Inv-loop μ-loop
 add-n c = omega arith
@@ -35,10 +42,10 @@ loop-less c = omega arith
 
 loop-again : tie.Need-loop-again Inv-loop μ-loop
 unfolding every nestedSound
-loop-again c = (omega arith, c .and-nested .ensures ∙ simp (add-one, c .before .before .before .loop .inv .1))
+loop-again c = (omega arith, simp (add-one, sym (c .before .active-fits .ensures) ∙ not-false _ (c .if1 .left), c .before .before .before .before .loop .inv .1))
 
-returns : tie.Need-returns Inv-loop μ-loop
-returns c = c .before .loop .inv .1 ∙ ap (every _) (le-antisymm (c .before .loop .inv .0) (c .loop-test .left))
+returns-2 : tie.Need-returns-2 Inv-loop μ-loop
+returns-2 c = sym (ap (every _) (sym (le-antisymm (c .before .loop .inv .0) (c .loop-test .left))) ∙ c .before .loop .inv .1)
 
 pub active-nested-spec : {M : Type 1} → statement M
 active-nested-spec =
@@ -47,9 +54,10 @@ active-nested-spec =
     Inv-loop
     μ-loop
     loop-holds
-    shared-slice-read-and-nested
-    and-nested-requires
+    shared-slice-read-active-fits
+    active-fits-requires
+    returns
     add-n
     loop-less
     loop-again
-    returns)
+    returns-2)

@@ -1,30 +1,37 @@
--- After i places the answer is that of these i.
+-- One place that holds something and is not in use decides; else all are tried.
 use Prim.Native.Nat.{_≤_, _-_}
-use mathlib.Core.Path.{_≡_, refl, ap, _∙_}
+use mathlib.Core.Path.{_≡_, refl, sym, ap, _∙_}
+use mathlib.Core.Bool.{true}
 use native.Mathlib.Nat.{le-antisymm}
 use native.Mathlib.Numerals.{add-one}
-use lib.ListN.{length}
-use Rattle.rules.specs.Sound.{every, unusedSound}
-use borrow.Author.Needs.{needs}
 use native.Mathlib.Omega.{arith}
+use lib.ListN.{length}
+use borrow.Author.Tests.{not-true, not-false}
+use borrow.Author.Needs.{needs}
+use Rattle.rules.specs.Sound.{every, unusedSound}
+use Rattle.soundness.proofs.Laws.{every-false}
 use Rattle.soundness.proofs.nest.unused_sound.Statement.{statement}
 use Rattle.soundness.proofs.nest.unused_sound.Tie as tie
 
 abbrev Inv-loop : tie.InvT-loop
-Inv-loop nest depth ok₀ i₀ ok i = (i ≤ length nest) × (ok ≡ every (unusedSound nest depth) i)
+Inv-loop nest depth i₀ i = (i ≤ length nest) × (every (unusedSound nest depth) i ≡ true)
 
 abbrev μ-loop : tie.MeasureT-loop
-μ-loop nest depth ok₀ i₀ ok i = length nest - i
+μ-loop nest depth i₀ i = length nest - i
 
 loop-holds : tie.Need-loop-holds Inv-loop μ-loop
 unfolding every
 loop-holds c = (omega arith, refl)
 
-shared-slice-read-and-unused : tie.Need-shared-slice-read-and-unused Inv-loop μ-loop
-shared-slice-read-and-unused c = omega arith
+shared-slice-read-place-fits : tie.Need-shared-slice-read-place-fits Inv-loop μ-loop
+shared-slice-read-place-fits c = omega arith
 
-and-unused-requires : tie.Need-and-unused-requires Inv-loop μ-loop
-and-unused-requires c κs = search needs
+place-fits-requires : tie.Need-place-fits-requires Inv-loop μ-loop
+place-fits-requires c κs = search needs
+
+returns : tie.Need-returns Inv-loop μ-loop
+unfolding unusedSound
+returns c = sym (every-false _ (c .before .before .before .before .loop .i) _ (c .before .before .before .loop-test .taken) (sym (c .before .place-fits .ensures) ∙ not-true _ (c .if1 .taken)))
 
 add-i : tie.Need-add-i Inv-loop μ-loop
 add-i c = omega arith
@@ -34,10 +41,10 @@ loop-less c = omega arith
 
 loop-again : tie.Need-loop-again Inv-loop μ-loop
 unfolding every unusedSound
-loop-again c = (omega arith, c .and-unused .ensures ∙ simp (add-one, c .before .before .before .loop .inv .1))
+loop-again c = (omega arith, simp (add-one, sym (c .before .place-fits .ensures) ∙ not-false _ (c .if1 .left), c .before .before .before .before .loop .inv .1))
 
-returns : tie.Need-returns Inv-loop μ-loop
-returns c = c .before .loop .inv .1 ∙ ap (every _) (le-antisymm (c .before .loop .inv .0) (c .loop-test .left))
+returns-2 : tie.Need-returns-2 Inv-loop μ-loop
+returns-2 c = sym (ap (every _) (sym (le-antisymm (c .before .loop .inv .0) (c .loop-test .left))) ∙ c .before .loop .inv .1)
 
 pub unused-sound-spec : {M : Type 1} → statement M
 unused-sound-spec =
@@ -46,9 +53,10 @@ unused-sound-spec =
     Inv-loop
     μ-loop
     loop-holds
-    shared-slice-read-and-unused
-    and-unused-requires
+    shared-slice-read-place-fits
+    place-fits-requires
+    returns
     add-i
     loop-less
     loop-again
-    returns)
+    returns-2)
