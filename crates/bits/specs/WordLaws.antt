@@ -133,24 +133,5 @@ without-le zero x y = omega arith
 without-le (suc n) x y = omega (arith, without-le n (x / 2) (y / 2))
 
 -- bytes and words
-pub byte-lt : (i x : ℕ) → byteAt i x < 256
-byte-lt i x = omega arith
-
 pub word-of-its-bytes : (x : ℕ) → x < 2 ^ 32 → wordOfBytes (byteAt 0 x) (byteAt 1 x) (byteAt 2 x) (byteAt 3 x) ≡ x
 word-of-its-bytes x h = let e : x / 16777216 % 256 ≡ x / 16777216 = omega arith in omega arith
-
-module _ (b0 b1 b2 b3 : ℕ) (h0 : b0 < 256) (h1 : b1 < 256) (h2 : b2 < 256) (h3 : b3 < 256) where
-  pub word-lt-of-bytes : wordOfBytes b0 b1 b2 b3 < 2 ^ 32
-  word-lt-of-bytes = omega arith
-
-  pub byte0-of-word : byteAt 0 (wordOfBytes b0 b1 b2 b3) ≡ b0
-  byte0-of-word = omega arith
-
-  pub byte1-of-word : byteAt 1 (wordOfBytes b0 b1 b2 b3) ≡ b1
-  byte1-of-word = omega arith
-
-  pub byte2-of-word : byteAt 2 (wordOfBytes b0 b1 b2 b3) ≡ b2
-  byte2-of-word = omega arith
-
-  pub byte3-of-word : byteAt 3 (wordOfBytes b0 b1 b2 b3) ≡ b3
-  byte3-of-word = omega arith

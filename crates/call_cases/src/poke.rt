@@ -6,10 +6,10 @@ use rules::Masks;
 use rules::System;
 use systick::Timer;
 
-// An element of a list. Past the end nothing is changed.
-fn poked_lists(mut s: State, field: u32, i: u32, v: u32) -> State {
+// A flag or a priority byte: they are held for the numbers 0 to 70. Past the last nothing is changed.
+fn poked_flags(mut s: State, field: u32, i: u32, v: u32) -> State {
     let n = i as usize;
-    if 63 <= n {
+    if 71 <= n {
         return s;
     }
     match field {
@@ -18,6 +18,18 @@ fn poked_lists(mut s: State, field: u32, i: u32, v: u32) -> State {
         0x656e6162 => s.enabled[n] = v == 1, // enab
         0x6c657665 => s.level[n] = v == 1, // leve
         0x7072696f => s.priority[n] = bits::byte_of(v, 0), // prio
+        _ => {}
+    }
+    s
+}
+
+// A place of the nest, which has one for each of the 63 exceptions. Past the last nothing is changed.
+fn poked_nest(mut s: State, field: u32, i: u32, v: u32) -> State {
+    let n = i as usize;
+    if 63 <= n {
+        return s;
+    }
+    match field {
         0x6e657374 => s.nest[n] = bits::byte_of(v, 0), // nest
         _ => {}
     }
@@ -94,7 +106,7 @@ fn poked_core(mut c: Core, field: u32, i: u32, v: u32) -> Core {
 
 // A field by its first four letters; of a list the element i.
 pub fn poked(s: State, field: u32, i: u32, v: u32) -> State {
-    let mut t = poked_lists(s, field, i, v);
+    let mut t = poked_nest(poked_flags(s, field, i, v), field, i, v);
     let core = t.core;
     let next = poked_core(core, field, i, v);
     t.core = next;

@@ -1,18 +1,17 @@
 // Faults and SVC on lent lists, for every chip. `limit` is the execution priority.
 ghost use mathlib.Core.Path.{_≡_};
-ghost use mathlib.Core.Bool.{Bool, not, _&&_};
-ghost use mathlib.Core.List.{List};
-ghost use Prim.Native.Nat.{ℕ, _<_};
+ghost use Rattle.rules.specs.Model.{Model, withPending, withEnabled, withPriority, withCore};
+ghost use Rattle.rules.specs.Lent.{answer};
+ghost use mathlib.Core.Bool.{not, _&&_};
+ghost use Prim.Native.Nat.{_<_};
 ghost use lib.Signed.{ltZ};
 ghost use Rattle.grouping.specs.Grouping.{groupPriority};
 ghost use Rattle.priority.specs.Priority.{isEnabled};
 ghost use Rattle.priority.specs.declared.Found.the-variants.{At};
-ghost use Rattle.rules.specs.Lent.{modelOf, answerOf};
-ghost use Rattle.rules.specs.Priorities.{execution};
-ghost use Rattle.rules.specs.Events.{raised, faultRaised, faultCall, svcCall};
+ghost use Rattle.rules.specs.Events.{raised, faultRaised, faultAt, svcAt};
 use nvic::flags::store_flag;
-use outcome::accepted;
-use outcome::refused;
+use parts::accepted;
+use parts::refused;
 use priority::Found;
 use rules::Core;
 use rules::Outcome;
@@ -41,7 +40,7 @@ fn raised(
     status: System,
 ) -> Outcome
     requires { ⌜ n < 16 ⌝ }
-    ensures { λ r. ⌜ ((active level : List Bool) (nest : List ℕ) → limit ≡ execution (modelOf (now (pending .entry)) active (now (enabled .entry)) level (now (priority .entry)) nest core) → answerOf r (now (pending .exit)) active (now (enabled .entry)) level (now (priority .entry)) nest ≡ raised (modelOf (now (pending .entry)) active (now (enabled .entry)) level (now (priority .entry)) nest core) n status) ⌝ }
+    ensures { λ r. ⌜ ((m : Model) → answer r (withPriority (now (priority .entry)) (withEnabled (now (enabled .entry)) (withPending (now (pending .exit)) m))) ≡ raised limit (withCore core (withPriority (now (priority .entry)) (withEnabled (now (enabled .entry)) (withPending (now (pending .entry)) m)))) n status) ⌝ }
 {
     if escalates(enabled, priority, core.group, limit, n) {
         let forced = system::status::forced(status);
@@ -66,7 +65,7 @@ fn fault_at(
     address: u32,
 ) -> Outcome
     requires { ⌜ (n < 16) × (bit < 32) ⌝ }
-    ensures { λ r. ⌜ ((active level : List Bool) (nest : List ℕ) → limit ≡ execution (modelOf (now (pending .entry)) active (now (enabled .entry)) level (now (priority .entry)) nest core) → answerOf r (now (pending .exit)) active (now (enabled .entry)) level (now (priority .entry)) nest ≡ faultRaised (modelOf (now (pending .entry)) active (now (enabled .entry)) level (now (priority .entry)) nest core) (At n) bit address) ⌝ }
+    ensures { λ r. ⌜ ((m : Model) → answer r (withPriority (now (priority .entry)) (withEnabled (now (enabled .entry)) (withPending (now (pending .exit)) m))) ≡ faultRaised limit (withCore core (withPriority (now (priority .entry)) (withEnabled (now (enabled .entry)) (withPending (now (pending .entry)) m)))) (At n) bit address) ⌝ }
 {
     if limit < 0 {
         return refused(core, 10);
@@ -85,7 +84,7 @@ pub fn fault(
     bit: u32,
     address: u32,
 ) -> Outcome
-    ensures { λ r. ⌜ ((active level : List Bool) (nest : List ℕ) → limit ≡ execution (modelOf (now (pending .entry)) active (now (enabled .entry)) level (now (priority .entry)) nest core) → answerOf r (now (pending .exit)) active (now (enabled .entry)) level (now (priority .entry)) nest ≡ faultCall (modelOf (now (pending .entry)) active (now (enabled .entry)) level (now (priority .entry)) nest core) bit address) ⌝ }
+    ensures { λ r. ⌜ ((m : Model) → answer r (withPriority (now (priority .entry)) (withEnabled (now (enabled .entry)) (withPending (now (pending .exit)) m))) ≡ faultAt limit (withCore core (withPriority (now (priority .entry)) (withEnabled (now (enabled .entry)) (withPending (now (pending .entry)) m)))) bit address) ⌝ }
 {
     let found = system::status::fault_exception(bit);
     match found {
@@ -101,7 +100,7 @@ pub fn svc(
     core: Core,
     limit: i32,
 ) -> Outcome
-    ensures { λ r. ⌜ ((active level : List Bool) (nest : List ℕ) → limit ≡ execution (modelOf (now (pending .entry)) active (now (enabled .entry)) level (now (priority .entry)) nest core) → answerOf r (now (pending .exit)) active (now (enabled .entry)) level (now (priority .entry)) nest ≡ svcCall (modelOf (now (pending .entry)) active (now (enabled .entry)) level (now (priority .entry)) nest core)) ⌝ }
+    ensures { λ r. ⌜ ((m : Model) → answer r (withPriority (now (priority .entry)) (withEnabled (now (enabled .entry)) (withPending (now (pending .exit)) m))) ≡ svcAt limit (withCore core (withPriority (now (priority .entry)) (withEnabled (now (enabled .entry)) (withPending (now (pending .entry)) m))))) ⌝ }
 {
     if limit < 0 {
         return refused(core, 10);

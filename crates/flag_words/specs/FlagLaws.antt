@@ -108,11 +108,6 @@ put-at v (suc n) flags at w (suc i) h k =
     (put-at v n g (at + 1) (w / 2) i (omega arith) (omega arith)
     ∙ ap (cond (bitAt i (w / 2)) v) (put-flag-other v flags at (at + 1 + i) (odd w) (λ e. omega arith)))
 
--- so the word that is read back has the value exactly where the word written has a 1
-pub put-reads-back : (v : Bool) (n : ℕ) (flags : List Bool) (at w i : ℕ) → i < n → at + i < length flags → bitAt i (wordOf (putFlags v n flags at w) at n) ≡ cond (bitAt i w) v (bitAt i (wordOf flags at n))
-put-reads-back v n flags at w i h k =
-    word-bit (putFlags v n flags at w) at n i h ∙ put-at v n flags at w i h k ∙ ap (cond (bitAt i w) v) (sym (word-bit flags at n i h))
-
 -- flag j is one of the n from `at` on, is named by a 1 bit of w, and the value is on
 pub record Named (v : Bool) (n : ℕ) (flags : List Bool) (at w j : ℕ) : Type 0 where
   pub from : at ≤ j

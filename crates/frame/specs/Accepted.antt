@@ -69,16 +69,6 @@ stack-accepted base len sp align e =
       holds = holds-of base len (frameAt align sp) (g .1);
     }
 
-pub accepted-stack : (base len sp : ℕ) (align : Bool) → StackAccepted base len sp align → stackRefusal base len sp align ≡ 0
-unfolding stackFits refusalOf
-accepted-stack base len sp align a =
-    simp (
-      of-fits base len (a .window),
-      eq-eqb (sp % 4) 0 (a .sp4),
-      le-leb 32 sp (a .room),
-      of-holds base len (frameAt align sp) (a .holds),
-    )
-
 pub unstack-accepted : (base len sp : ℕ) → unstackRefusal base len sp ≡ 0 → UnstackAccepted base len sp
 unfolding unstackFits
 unstack-accepted base len sp e =

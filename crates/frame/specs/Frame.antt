@@ -21,7 +21,7 @@ holdsFrame base len frame = leb base frame && leb (frame + 32) (base + len)
 unfoldable pub padded : Bool → ℕ → Bool
 padded align sp = align && bitAt 2 (sp - 32)
 
--- "The frame is at SP - 32, with bit 2 cleared if the flag is set"
+-- "The frame is at SP - 32, with bit 2 cleared if the flag is set", in the manual STKALIGN
 unfoldable pub frameAt : Bool → ℕ → ℕ
 frameAt align sp = cond align (withBit 2 false (sp - 32)) (sp - 32)
 
@@ -50,7 +50,7 @@ refusalOf window frame = cond window (cond frame 0 11) 12
 abbrev pub stackRefusal : ℕ → ℕ → ℕ → Bool → ℕ
 stackRefusal base len sp align = refusalOf (windowFits base len) (stackFits base len sp align)
 
--- stacking answers the frame's address, which is the new SP
+-- stacking answers the frame's address, which is the new SP: with `stackedWindow` the manual's PushStack()
 unfoldable pub stacked : ℕ → ℕ → ℕ → Bool → Stacked
 stacked base len sp align =
     cond
@@ -116,7 +116,7 @@ noWords = record { r0 = 0; r1 = 0; r2 = 0; r3 = 0; r12 = 0; lr = 0; pc = 0; xpsr
 abbrev pub gaveBack : ℕ → Words → Unstacked
 gaveBack sp words = record { refusal = 0; sp = sp; words = words }
 
--- unstacking answers the words as stored and the restored SP
+-- unstacking answers the words as stored and the restored SP: the manual's PopStack()
 unfoldable pub unstacked : ℕ → List ℕ → ℕ → Bool → Unstacked
 unstacked base window sp align =
     cond

@@ -6,7 +6,7 @@ use lib.ListN.{getD}
 use lib.Dec.{eqb}
 use lib.IntN.{ℤ, pos, negsuc}
 
--- "The rest have a byte; bits 7:5 are kept, the others read 0": the upper w bits of a byte
+-- "The rest have a byte; bits 7:5 are kept, the others read 0": the upper w bits of a byte, all of it where w is 8 or more
 abbrev pub keptByte : ℕ → ℕ → ℕ
 keptByte w b = b % 256 / 2 ^ (8 - w) * 2 ^ (8 - w)
 

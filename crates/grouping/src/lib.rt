@@ -1,14 +1,15 @@
 // Full priorities and group numbers.
 ghost use mathlib.Core.Path.{_≡_};
-ghost use Prim.Native.Nat.{_≤_};
 ghost use lib.IntN.{pos};
 ghost use Rattle.grouping.specs.Grouping.{keptByte, groupOf, grouped, fullPriority, groupPriority};
 
-// The low byte of b, cut to its upper w bits. w is a constant of the chip, 3 to 8.
+// The low byte of b, cut to its upper w bits; the whole byte where w is 8 or more.
 pub fn kept_byte(b: u32, w: u32) -> u8
-    requires { ⌜ w ≤ 8 ⌝ }
     ensures { λ r. ⌜ r ≡ keptByte w b ⌝ }
 {
+    if 8 <= w {
+        return (b % 256) as u8;
+    }
     let cut = 8 - w;
     ((b % 256) >> cut << cut) as u8
 }

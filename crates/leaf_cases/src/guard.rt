@@ -1,4 +1,4 @@
-// Crate mpu: its registers and its verdicts.
+// Crates mpu and verdicts: region match, rights, the default map; then the registers.
 use super::show::four;
 use super::show::two;
 use mpu::Mpu;

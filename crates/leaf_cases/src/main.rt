@@ -1,4 +1,5 @@
-// Worked values of document 01, run on the four leaf crates, a labelled line for each.
+// Worked values of document 01, run on the leaves that need nothing of the rules, a labelled line for each. Frames and scripts have
+// programs of their own.
 mod guard;
 mod order;
 mod show;

@@ -1,4 +1,4 @@
-// Crate priority: group numbers, execution priority, the best pending exception.
+// Crates grouping and priority: group numbers, execution priority, the best pending exception.
 use super::show::four;
 use super::show::four_priorities;
 use bits::bit_of;

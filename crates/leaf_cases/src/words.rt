@@ -1,4 +1,4 @@
-// Crate bits: fields of registers, and flags as words.
+// Crates bits and flag_words: fields of registers, and flags as words.
 use super::show::four;
 use super::show::two;
 use bits::bit_of;

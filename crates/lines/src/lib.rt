@@ -1,15 +1,12 @@
 // Lines, NMI and SysTick on lent lists, for every chip.
 ghost use mathlib.Core.Path.{_≡_};
-ghost use mathlib.Core.Bool.{Bool};
-ghost use mathlib.Core.List.{List};
-ghost use Prim.Native.Nat.{ℕ};
-ghost use Rattle.rules.specs.declared.Core.{Core};
-ghost use Rattle.rules.specs.Lent.{modelOf, answerOf};
+ghost use Rattle.rules.specs.Model.{Model, withPending, withLevel, withCore};
+ghost use Rattle.rules.specs.Lent.{answer};
 ghost use Rattle.rules.specs.Events.{levelled, lineCall, nmiCall};
 use nvic::flags::flag_at;
 use nvic::flags::store_flag;
-use outcome::accepted;
-use outcome::refused;
+use parts::accepted;
+use parts::refused;
 use rules::Chip;
 use rules::Core;
 use rules::Outcome;
@@ -18,7 +15,7 @@ pub mod ticks;
 
 // The line of exception n goes to a level. Only a rise makes it pending.
 fn set_level(pending: &mut [bool], level: &mut [bool], n: usize, high: bool)
-    ensures { λ _. ⌜ ((active enabled : List Bool) (priority nest : List ℕ) (core : Core) → modelOf (now (pending .exit)) active enabled (now (level .exit)) priority nest core ≡ levelled n high (modelOf (now (pending .entry)) active enabled (now (level .entry)) priority nest core)) ⌝ }
+    ensures { λ _. ⌜ ((m : Model) → withLevel (now (level .exit)) (withPending (now (pending .exit)) m) ≡ levelled n high (withLevel (now (level .entry)) (withPending (now (pending .entry)) m))) ⌝ }
 {
     if high {
         if flag_at(level, n) {
@@ -40,7 +37,7 @@ pub fn line(
     line: u32,
     to: u32,
 ) -> Outcome
-    ensures { λ r. ⌜ ((active enabled : List Bool) (priority nest : List ℕ) → answerOf r (now (pending .exit)) active enabled (now (level .exit)) priority nest ≡ lineCall chip (modelOf (now (pending .entry)) active enabled (now (level .entry)) priority nest core) line to) ⌝ }
+    ensures { λ r. ⌜ ((m : Model) → answer r (withLevel (now (level .exit)) (withPending (now (pending .exit)) m)) ≡ lineCall chip (withCore core (withLevel (now (level .entry)) (withPending (now (pending .entry)) m))) line to) ⌝ }
 {
     if chip.lines <= line {
         return refused(core, 6);
@@ -53,7 +50,7 @@ pub fn line(
 }
 
 pub fn nmi(pending: &mut [bool], core: Core) -> Outcome
-    ensures { λ r. ⌜ ((active enabled level : List Bool) (priority nest : List ℕ) → answerOf r (now (pending .exit)) active enabled level priority nest ≡ nmiCall (modelOf (now (pending .entry)) active enabled level priority nest core)) ⌝ }
+    ensures { λ r. ⌜ ((m : Model) → answer r (withPending (now (pending .exit)) m) ≡ nmiCall (withCore core (withPending (now (pending .entry)) m))) ⌝ }
 {
     store_flag(pending, 2, true);
     accepted(core, 0)

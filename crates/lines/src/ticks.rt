@@ -1,17 +1,15 @@
 // SysTick.
 ghost use mathlib.Core.Path.{_≡_};
-ghost use mathlib.Core.Bool.{Bool};
-ghost use mathlib.Core.List.{List};
-ghost use Prim.Native.Nat.{ℕ};
-ghost use Rattle.rules.specs.Lent.{modelOf, answerOf};
+ghost use Rattle.rules.specs.Model.{Model, withPending, withCore};
+ghost use Rattle.rules.specs.Lent.{answer};
 ghost use Rattle.rules.specs.Events.{tickCall};
 use nvic::flags::store_flag;
-use outcome::accepted;
+use parts::accepted;
 use rules::Core;
 use rules::Outcome;
 
 pub fn tick(pending: &mut [bool], mut core: Core) -> Outcome
-    ensures { λ r. ⌜ ((active enabled level : List Bool) (priority nest : List ℕ) → answerOf r (now (pending .exit)) active enabled level priority nest ≡ tickCall (modelOf (now (pending .entry)) active enabled level priority nest core)) ⌝ }
+    ensures { λ r. ⌜ ((m : Model) → answer r (withPending (now (pending .exit)) m) ≡ tickCall (withCore core (withPending (now (pending .entry)) m))) ⌝ }
 {
     let timer = core.timer;
     let ticked = timer.tick();

@@ -1,12 +1,10 @@
-// The checks that register accesses and access verdicts share: width, alignment, privilege; and the byte of a word.
+// The checks of a register access: width, alignment, privilege; and the byte of a word. Access verdicts share the first two.
 ghost use mathlib.Core.Path.{_≡_};
 ghost use Prim.Native.Nat.{_%_};
 ghost use lib.Dec.{eqb};
 ghost use Rattle.rules.specs.Registers.{isWidth, accessRefusal, laneOf};
-ghost use Rattle.rules.specs.Step.{purposeOf, fitsAccess};
 use super::width_refusal;
 use rules::Register;
-use verdicts::Access;
 
 pub fn is_width(w: u32) -> bool
     ensures { λ r. ⌜ r ≡ isWidth w ⌝ }
@@ -52,23 +50,4 @@ pub fn lane_of(w: u32, a: u32, x: u32) -> u32
         return x;
     }
     bits::wide(bits::byte_of(x, a % 4))
-}
-
-pub fn fits_access(kind: u32, w: u32) -> bool
-    ensures { λ r. ⌜ r ≡ fitsAccess kind w ⌝ }
-{
-    if kind == 2 {
-        return w == 2;
-    }
-    is_width(w)
-}
-
-pub fn purpose_of(kind: u32) -> Access
-    ensures { λ r. ⌜ r ≡ purposeOf kind ⌝ }
-{
-    match kind {
-        0 => Access::Read,
-        1 => Access::Write,
-        _ => Access::Fetch,
-    }
 }

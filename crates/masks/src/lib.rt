@@ -1,6 +1,5 @@
 // The masks and CONTROL: a special register written, and what entry and return do to them.
 ghost use mathlib.Core.Path.{_≡_};
-ghost use Prim.Native.Nat.{_≤_};
 ghost use Rattle.rules.specs.Events.{withPrimask, withBasepri, faultmaskWritten, basepriRaised, controlWritten, specialWritten};
 ghost use Rattle.rules.specs.Nesting.{withSpsel, returnedMasks};
 use rules::Chip;
@@ -58,7 +57,7 @@ fn control_written(mut masks: Masks, v: u32, thread: bool) -> Masks
     masks
 }
 
-// `negative` is whether the execution priority is below 0, `thread` whether nothing is nested. A chip keeps 3 to 8 bits.
+// `negative` is whether the execution priority is below 0, `thread` whether nothing is nested.
 pub fn special_written(
     chip: Chip,
     masks: Masks,
@@ -67,7 +66,6 @@ pub fn special_written(
     negative: bool,
     thread: bool,
 ) -> Masks
-    requires { ⌜ chip .bits ≤ 8 ⌝ }
     ensures { λ r. ⌜ r ≡ specialWritten chip which v negative thread masks ⌝ }
 {
     match which {

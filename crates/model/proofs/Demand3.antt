@@ -3,17 +3,17 @@ use mathlib.Core.Path.{ap, subst, sym}
 use mathlib.Core.List.{List, map}
 use Rattle.script.specs.declared.Event.{Event}
 use Rattle.rules.specs.Chip.{chip55}
-use Rattle.rules.specs.Demand3.{Calls, Entering}
-use Rattle.rules.specs.Demand3 as rules
-use Rattle.rules.proofs.Demand3.{demand3}
+use Rattle.demand3.specs.Demand3.{Calls, Entering}
+use Rattle.demand3.specs.Demand3 as claim
+use Rattle.demand3.proofs.Demand3.{demand3}
 use Rattle.model.specs.declared.State.{State}
 use Rattle.model.specs.declared.Reply.{Reply}
 use Rattle.model.specs.View.{model}
 use Rattle.model.specs.Demand3.{answer, Called, stop, call, CodeDemand3}
 
-called : {s t : State} {es : List Event} {rs : List Reply} → Called s es rs t → Calls chip55 (model s) es (map answer rs) (model t)
-called stop = rules.stop
-called (call e k) = rules.call (ap answer e) (called k)
+pub called : {s t : State} {es : List Event} {rs : List Reply} → Called s es rs t → Calls chip55 (model s) es (map answer rs) (model t)
+called stop = claim.stop
+called (call e k) = claim.call (ap answer e) (called k)
 
 pub code-demand3 : CodeDemand3
 code-demand3 =

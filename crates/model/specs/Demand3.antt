@@ -1,5 +1,5 @@
 -- The user's third demand about what runs: a list of calls on states by value, each on the state that the last one handed back.
--- `rules` states the claim and proves it for every chip; here it is said of the replies of the 55-line chip.
+-- `demand3` states the claim and proves it for every chip; here it is said of the replies of the 55-line chip.
 use mathlib.Core.Path.{_≡_}
 use mathlib.Core.List.{List, [], _∷_, map}
 use Rattle.script.specs.declared.Event.{Event}
@@ -8,7 +8,7 @@ use Rattle.rules.specs.Chip.{chip55}
 use Rattle.rules.specs.Model.{Answer, fresh}
 use Rattle.rules.specs.Sound.{Sound}
 use Rattle.rules.specs.Step.{stepOf}
-use Rattle.rules.specs.Demand3.{Claim, Entering}
+use Rattle.demand3.specs.Demand3.{Claim, Entering}
 use Rattle.model.specs.declared.State.{State}
 use Rattle.model.specs.declared.Reply.{Reply}
 use Rattle.model.specs.View.{model, state, reply}

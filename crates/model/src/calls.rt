@@ -1,9 +1,7 @@
 // The calls. Each takes any state and any numbers: a state that is not sound is refused by 16, and handed back.
 ghost use mathlib.Core.Path.{_≡_};
 ghost use Rattle.rules.specs.Chip.{chip55};
-ghost use Rattle.rules.specs.Model.{refuse};
-ghost use Rattle.rules.specs.Sound.{Sound};
-ghost use Rattle.rules.specs.Step.{actOf, stepOf};
+ghost use Rattle.rules.specs.Step.{stepOf};
 ghost use Rattle.script.specs.declared.Event.the-variants.{Read, Write, Line, Nmi, Tick, Fault, Svc, Special, Entry, Return, Access};
 ghost use Rattle.script.specs.declared.AccessKind.the-variants.{Other};
 ghost use Rattle.model.specs.View.{model, reply};
@@ -13,10 +11,9 @@ use script::AccessKind;
 use script::Event;
 
 impl State {
-    // An event on a sound state: the work is done on its arrays, lent to the code that every chip shares.
-    fn act(self, event: Event) -> Reply
-        requires { ⌜ Sound chip55 (model self) ⌝ }
-        ensures { λ r. ⌜ r ≡ reply (actOf chip55 (model self) event) ⌝ }
+    // The work is done on the state's arrays, lent to the code that every chip shares.
+    pub fn step(self, event: Event) -> Reply
+        ensures { λ r. ⌜ r ≡ reply (stepOf chip55 (model self) event) ⌝ }
     {
         let mut pending = self.pending;
         let mut active = self.active;
@@ -25,8 +22,7 @@ impl State {
         let mut priority = self.priority;
         let mut nest = self.nest;
         let core = self.core;
-        let limit = sound_state::execution(&priority, &nest, core);
-        let outcome = step::act(
+        let outcome = guarded::step(
             super::CHIP,
             &mut pending,
             &mut active,
@@ -35,7 +31,6 @@ impl State {
             &mut priority,
             &mut nest,
             core,
-            limit,
             event,
         );
         let left = outcome.core;
@@ -55,27 +50,6 @@ impl State {
             link: outcome.link,
             state,
         }
-    }
-
-    fn refuse(self, number: u32) -> Reply
-        ensures { λ r. ⌜ r ≡ reply (refuse number (model self)) ⌝ }
-    {
-        Reply {
-            refusal: number,
-            value: 0,
-            vector: 0,
-            link: 0,
-            state: self,
-        }
-    }
-
-    pub fn step(self, event: Event) -> Reply
-        ensures { λ r. ⌜ r ≡ reply (stepOf chip55 (model self) event) ⌝ }
-    {
-        if self.is_sound() {
-            return self.act(event);
-        }
-        self.refuse(16)
     }
 
     pub fn read(self, width: u32, address: u32) -> Reply

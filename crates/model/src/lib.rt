@@ -1,7 +1,7 @@
 // The state by value of the chip with 55 lines, and the calls on it. Each call hands back its answer with the next state.
 ghost use mathlib.Core.Path.{_≡_};
 ghost use Rattle.rules.specs.Chip.{chip55};
-ghost use Rattle.rules.specs.Model.{fresh, stack, top};
+ghost use Rattle.rules.specs.Model.{fresh, stack, depthOf, top};
 ghost use Rattle.rules.specs.Priorities.{execution};
 ghost use Rattle.rules.specs.Sound.{isSound};
 ghost use Rattle.model.specs.View.{model, state};
@@ -45,7 +45,7 @@ impl State {
             level: [false; 71],
             priority: [0; 71],
             nest: [0; 63],
-            core: outcome::fresh_core(),
+            core: parts::fresh_core(),
         }
     }
 
@@ -60,7 +60,7 @@ impl State {
 
     // How many exceptions are nested.
     pub fn depth(self) -> usize
-        ensures { λ r. ⌜ r ≡ model self .depth ⌝ }
+        ensures { λ r. ⌜ r ≡ depthOf (model self) ⌝ }
     {
         let core = self.core;
         core.depth

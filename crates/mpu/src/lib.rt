@@ -1,8 +1,10 @@
 // The MPU, a guard of eight regions, and its registers. What it allows is in `verdicts`.
 ghost use mathlib.Core.Path.{_≡_};
 ghost use lib.ListN.{length, getD, set};
+ghost use Rattle.bools.specs.Every.{every};
 ghost use Rattle.mpu.specs.Registers.{freshMpu, mpuRegisterAt, keptBase, keptAttributes, readMpu, withControl, writeNumber, withBase, writeBase, withAttributes, writeMpu};
-ghost use Rattle.mpu.specs.Soundness.{both, allBelow, regionKept, soundMpu};
+ghost use Rattle.mpu.specs.Soundness.{regionKept, soundMpu};
+use bools::both;
 
 // The registers' words; a base without its low five bits.
 pub struct Mpu {
@@ -76,25 +78,17 @@ fn with_word(mut words: [u32; 8], n: u32, x: u32) -> [u32; 8]
     words
 }
 
-fn both(a: bool, b: bool) -> bool
-    ensures { λ r. ⌜ r ≡ both a b ⌝ }
-{
-    if a { b } else { false }
-}
-
 // The caller lends two arrays of eight.
 fn regions_kept(bases: &[u32], attributes: &[u32]) -> bool
     requires { ⌜ length (now bases) ≡ length (now attributes) ⌝ }
-    ensures { λ r. ⌜ r ≡ allBelow (regionKept (now (bases .entry)) (now (attributes .entry))) (length (now (attributes .entry))) ⌝ }
+    ensures { λ r. ⌜ r ≡ every (regionKept (now (bases .entry)) (now (attributes .entry))) (length (now (attributes .entry))) ⌝ }
 {
     let mut ok = true;
     let mut i = 0;
     while i < attributes.len() {
         let base = kept_base(bases[i]) == bases[i];
-        ok = both(
-            ok,
-            both(base, kept_attributes(attributes[i]) == attributes[i]),
-        );
+        let kept = both(base, kept_attributes(attributes[i]) == attributes[i]);
+        ok = both(kept, ok);
         i += 1;
     }
     ok

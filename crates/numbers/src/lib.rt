@@ -3,6 +3,7 @@ ghost use mathlib.Core.Path.{_≡_};
 ghost use Prim.Native.Nat.{_+_, _<_, _≤_};
 ghost use lib.ListN.{length};
 ghost use lib.Seq.{sets};
+ghost use Rattle.numbers.specs.Answers.{numberAnswer};
 ghost use Rattle.numbers.specs.Number.{groups, joined, groupsAt, numberAt};
 
 // A number and the offset after it, or one that is cut short, too large or not in its shortest form.
@@ -49,6 +50,7 @@ fn read_groups(bytes: &[u8], at: usize, left: u32) -> Number
 // The number that starts at an offset. Most numbers have one group, which takes no call.
 pub fn read_number(bytes: &[u8], at: usize) -> Number
     ensures { λ r. ⌜ r ≡ numberAt (now (bytes .entry)) at ⌝ }
+    ensures numbers { λ r. ⌜ numberAnswer r ≡ numberAnswer (numberAt (now (bytes .entry)) at) ⌝ }
 {
     if at < bytes.len() {
         let first = bytes[at] as u32;

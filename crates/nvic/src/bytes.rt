@@ -1,6 +1,6 @@
 // Priority bytes, one or four at a time. Past the end a byte reads 0 and takes nothing.
 ghost use mathlib.Core.Path.{_≡_};
-ghost use Prim.Native.Nat.{_+_, _<_, _≤_};
+ghost use Prim.Native.Nat.{_+_, _<_};
 ghost use lib.ListN.{getD, set};
 ghost use Rattle.bits.specs.Words.{byteAt};
 ghost use Rattle.rules.specs.Reads.{bytesValue};
@@ -40,9 +40,8 @@ pub fn store_byte(priority: &mut [u8], n: usize, b: u8)
     }
 }
 
-// The low byte of b at n, cut to the chip's bits; nothing where no exception has a byte. A chip keeps 3 to 8 bits.
+// The low byte of b at n, cut to the chip's bits; nothing where no exception has a byte.
 pub fn put_byte(priority: &mut [u8], chip: Chip, n: usize, b: u32)
-    requires { ⌜ chip .bits ≤ 8 ⌝ }
     ensures { λ _. ⌜ now (priority .exit) ≡ withByte chip n b (now (priority .entry)) ⌝ }
 {
     if has_byte(chip, n) {
@@ -52,7 +51,7 @@ pub fn put_byte(priority: &mut [u8], chip: Chip, n: usize, b: u32)
 
 // The same at n + lane.
 pub fn put_byte_after(priority: &mut [u8], chip: Chip, n: usize, lane: u32, b: u32)
-    requires { ⌜ (chip .bits ≤ 8) × (lane < 4) ⌝ }
+    requires { ⌜ lane < 4 ⌝ }
     ensures { λ _. ⌜ now (priority .exit) ≡ withByte chip (n + lane) b (now (priority .entry)) ⌝ }
 {
     let k = lane as usize;
@@ -65,14 +64,13 @@ pub fn put_byte_after(priority: &mut [u8], chip: Chip, n: usize, lane: u32, b: u
 
 // Byte `lane` of v at n + lane.
 fn put_lane(priority: &mut [u8], chip: Chip, n: usize, lane: u32, v: u32)
-    requires { ⌜ (chip .bits ≤ 8) × (lane < 4) ⌝ }
+    requires { ⌜ lane < 4 ⌝ }
     ensures { λ _. ⌜ now (priority .exit) ≡ withByte chip (n + lane) (byteAt lane v) (now (priority .entry)) ⌝ }
 {
     put_byte_after(priority, chip, n, lane, bits::wide(bits::byte_of(v, lane)));
 }
 
 pub fn put_bytes(priority: &mut [u8], chip: Chip, n: usize, v: u32)
-    requires { ⌜ chip .bits ≤ 8 ⌝ }
     ensures { λ _. ⌜ now (priority .exit) ≡ withBytes chip n v (now (priority .entry)) ⌝ }
 {
     put_lane(priority, chip, n, 0, v);

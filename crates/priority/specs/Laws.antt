@@ -14,7 +14,9 @@ use Rattle.priority.specs.declared.Found.{Found}
 use Rattle.priority.specs.declared.Found.the-variants.{At, Nothing}
 use Rattle.grouping.specs.Grouping.{groupOf, grouped, fullPriority, groupPriority}
 use Rattle.priority.specs.Priority.{under, masked, leastActive, executionPriority, leastNested, executionNested, isEnabled, eligible, better, best, bestPending}
-use Rattle.priority.specs.Order.{is-true, is-false, both, join, by-cases, below-suc, flag-below, <ℤ-≤ℤ, <ℤ-or-≡, Least, least-unique, least-same, With, least-under}
+use Rattle.bools.specs.Tests.{is-true, is-false, both, join, by-cases}
+use Rattle.bools.specs.Every.{below-suc}
+use Rattle.priority.specs.Order.{flag-below, <ℤ-≤ℤ, <ℤ-or-≡, Least, least-unique, least-same, With, least-under}
 
 -- no group number is below -2
 pub group-lowest : (p : ℕ) (bytes : List ℕ) (n : ℕ) → negsuc 1 ≤ℤ groupPriority p bytes n
@@ -164,12 +166,12 @@ pub record IsBest (test : ℕ → Bool) (key : ℕ → ℤ) (k n : ℕ) : Type 0
   pub passes : T (test n)
   pub first : (m : ℕ) → m < k → T (test m) → m ≢ n → Ahead key n m
 
-abbrev pub Outcome : (ℕ → Bool) → (ℕ → ℤ) → ℕ → Found → Type 0
-Outcome test key k Nothing = (m : ℕ) → m < k → T (test m) → ⊥
-Outcome test key k (At n) = IsBest test key k n
+abbrev pub Finds : (ℕ → Bool) → (ℕ → ℤ) → ℕ → Found → Type 0
+Finds test key k Nothing = (m : ℕ) → m < k → T (test m) → ⊥
+Finds test key k (At n) = IsBest test key k n
 
 module _ (test : ℕ → Bool) (key : ℕ → ℤ) where
-  step-none : (k : ℕ) (t : Bool) → test k ≡ t → Outcome test key k Nothing → Outcome test key (suc k) (better t key k Nothing)
+  step-none : (k : ℕ) (t : Bool) → test k ≡ t → Finds test key k Nothing → Finds test key (suc k) (better t key k Nothing)
   step-none k true e h = record { below = le-refl (suc k); passes = is-true e; first = λ m l p ne. below-suc m k l (λ q. absurd (ne q)) (λ l′. absurd (h m l′ p)) }
   step-none k false e h = λ m l p. below-suc m k l (λ q. is-false e (subst (λ x. T (test x)) q p)) (λ l′. h m l′ p)
 
@@ -199,25 +201,25 @@ module _ (test : ℕ → Bool) (key : ℕ → ℤ) where
           pick true e = subst (λ x. key k <ℤ key x) (sym (eqb→eq m n (is-true e))) l
           pick false e = through m (h .first m b q (λ e′. is-false e (subst (λ x. T (eqb m x)) e′ (eqb-refl m))))
 
-  step-some : (k n : ℕ) (t : Bool) → test k ≡ t → IsBest test key k n → Outcome test key (suc k) (better t key k (At n))
+  step-some : (k n : ℕ) (t : Bool) → test k ≡ t → IsBest test key k n → Finds test key (suc k) (better t key k (At n))
   step-some k n false e h = keep-old k n h (λ p. absurd (is-false e p))
-  step-some k n true e h = by-cases (λ o. Outcome test key (suc k) o) (ltZ (key k) (key n)) (λ l. take-new k n h (is-true e) (ltZ-yes l)) (λ l. keep-old k n h (λ p. ltZ-no l))
+  step-some k n true e h = by-cases (λ o. Finds test key (suc k) o) (ltZ (key k) (key n)) (λ l. take-new k n h (is-true e) (ltZ-yes l)) (λ l. keep-old k n h (λ p. ltZ-no l))
 
-  step-best : (k : ℕ) (o : Found) → Outcome test key k o → Outcome test key (suc k) (better (test k) key k o)
+  step-best : (k : ℕ) (o : Found) → Finds test key k o → Finds test key (suc k) (better (test k) key k o)
   step-best k Nothing h = step-none k (test k) refl h
   step-best k (At n) h = step-some k n (test k) refl h
 
-  pub best-outcome : (k : ℕ) → Outcome test key k (best test key k)
+  pub best-finds : (k : ℕ) → Finds test key k (best test key k)
   unfolding best
-  best-outcome zero = λ m l p. absurd (not-suc-le-zero l)
-  best-outcome (suc k) = step-best k (best test key k) (best-outcome k)
+  best-finds zero = λ m l p. absurd (not-suc-le-zero l)
+  best-finds (suc k) = step-best k (best test key k) (best-finds k)
 
 -- another search with such an outcome finds the same
-pub outcome-unique : (test : ℕ → Bool) (key : ℕ → ℤ) (k : ℕ) (o p : Found) → Outcome test key k o → Outcome test key k p → o ≡ p
-outcome-unique test key k Nothing Nothing h g = refl
-outcome-unique test key k Nothing (At m) h g = absurd (h m (g .below) (g .passes))
-outcome-unique test key k (At n) Nothing h g = absurd (g n (h .below) (h .passes))
-outcome-unique test key k (At n) (At m) h g = ap At (go (eqb n m) refl)
+pub finds-unique : (test : ℕ → Bool) (key : ℕ → ℤ) (k : ℕ) (o p : Found) → Finds test key k o → Finds test key k p → o ≡ p
+finds-unique test key k Nothing Nothing h g = refl
+finds-unique test key k Nothing (At m) h g = absurd (h m (g .below) (g .passes))
+finds-unique test key k (At n) Nothing h g = absurd (g n (h .below) (h .passes))
+finds-unique test key k (At n) (At m) h g = ap At (go (eqb n m) refl)
   where
     clash : Ahead key n m → Ahead key m n → n ≡ m
     clash (inl a) (inl b) = absurd (<ℤ-irrefl (<ℤ-≤ℤ-trans a (<ℤ-≤ℤ b)))
@@ -255,22 +257,22 @@ module _ (p : ℕ) (bytes : List ℕ) (pending enabled : List Bool) (limit : ℤ
     pub able : Eligible n
     pub first : (m : ℕ) → Eligible m → m ≢ n → Ahead (fullPriority bytes) n m
 
-  pub pending-outcome : Outcome (eligible p bytes pending enabled limit) (fullPriority bytes) (length pending) (bestPending p bytes pending enabled limit)
+  pub pending-finds : Finds (eligible p bytes pending enabled limit) (fullPriority bytes) (length pending) (bestPending p bytes pending enabled limit)
   unfolding bestPending
-  pending-outcome = best-outcome (eligible p bytes pending enabled limit) (fullPriority bytes) (length pending)
+  pending-finds = best-finds (eligible p bytes pending enabled limit) (fullPriority bytes) (length pending)
 
   pub pending-best : (n : ℕ) → bestPending p bytes pending enabled limit ≡ At n → Best n
   pending-best n e =
-      let h : IsBest (eligible p bytes pending enabled limit) (fullPriority bytes) (length pending) n = subst (Outcome (eligible p bytes pending enabled limit) (fullPriority bytes) (length pending)) e pending-outcome in
+      let h : IsBest (eligible p bytes pending enabled limit) (fullPriority bytes) (length pending) n = subst (Finds (eligible p bytes pending enabled limit) (fullPriority bytes) (length pending)) e pending-finds in
       record { able = eligible-parts n (h .passes); first = λ m a. h .first m (flag-below pending m (a .pends)) (eligible-whole m a) }
 
   -- nothing is answered exactly when nothing is eligible
   pub pending-nothing : (bestPending p bytes pending enabled limit ≡ Nothing) ↔ ((n : ℕ) → Eligible n → ⊥)
-  pending-nothing = (to, from (bestPending p bytes pending enabled limit) pending-outcome)
+  pending-nothing = (to, from (bestPending p bytes pending enabled limit) pending-finds)
     where
       to : bestPending p bytes pending enabled limit ≡ Nothing → (n : ℕ) → Eligible n → ⊥
-      to e n a = subst (Outcome (eligible p bytes pending enabled limit) (fullPriority bytes) (length pending)) e pending-outcome n (flag-below pending n (a .pends)) (eligible-whole n a)
+      to e n a = subst (Finds (eligible p bytes pending enabled limit) (fullPriority bytes) (length pending)) e pending-finds n (flag-below pending n (a .pends)) (eligible-whole n a)
 
-      from : (o : Found) → Outcome (eligible p bytes pending enabled limit) (fullPriority bytes) (length pending) o → ((n : ℕ) → Eligible n → ⊥) → o ≡ Nothing
+      from : (o : Found) → Finds (eligible p bytes pending enabled limit) (fullPriority bytes) (length pending) o → ((n : ℕ) → Eligible n → ⊥) → o ≡ Nothing
       from Nothing h empty = refl
       from (At n) h empty = absurd (empty n (eligible-parts n (h .passes)))

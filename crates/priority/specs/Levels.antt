@@ -11,7 +11,8 @@ use lib.Dec.{T, leb, eqb, leb→le, nleb→lt, ltb→lt}
 use lib.IntN.{ℤ, pos, negsuc}
 use lib.Signed.{ltZ, _<ℤ_}
 use Rattle.grouping.specs.Grouping.{keptByte, groupOf, grouped, groupPriority}
-use Rattle.priority.specs.Order.{by-cases, few, is-true, fails, Rising}
+use Rattle.bools.specs.Tests.{by-cases, is-true, fails}
+use Rattle.priority.specs.Order.{few, Rising}
 
 -- a byte with none but its upper w bits
 pub record Kept (w b : ℕ) : Type 0 where
@@ -75,7 +76,7 @@ module _ (w p : ℕ) (small : p < 8) where
   abbrev width : ℕ
   width = max (p + 1) (8 - w)
 
-  group-is : (b : ℕ) → Kept w b → groupOf p b ≡ b / 2 ^ width * 2 ^ width
+  pub group-is : (b : ℕ) → Kept w b → groupOf p b ≡ b / 2 ^ width * 2 ^ width
   group-is b h = go (leb (p + 1) (8 - w)) refl
     where
       whole : (k : ℕ) → b % 2 ^ k ≡ 0 → b / 2 ^ k * 2 ^ k ≡ b

@@ -2,3 +2,4 @@ pub mod Priority
 pub mod Order
 pub mod Laws
 pub mod Levels
+pub mod Counting

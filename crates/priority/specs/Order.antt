@@ -1,15 +1,16 @@
--- Facts with no exception in them: tests, the order of the signed numbers, lists of distinct numbers, lists that rise.
+-- Facts with no exception in them: the order of the signed numbers, lists of distinct numbers, lists that rise.
 use Prim.Native.Nat.{ℕ, suc, _-_, _≤_, _<_, zero-le, suc-le-suc}
 use mathlib.Core.Path.{_≡_, refl, sym, ap, subst, _∙_}
 use mathlib.Core.Logic.{_≢_, _⊎_, inl, inr}
 use mathlib.Core.List.{List, [], _∷_, List·Memᴰ, List·Memᴰ·head, List·Memᴰ·tail, List·Memᴰ·cases-cons, Memᴰ·cast}
-use mathlib.Core.Bool.{Bool, true, false, not, cond, _&&_, _||_}
-use native.Mathlib.Nat.{le-antisymm, le-trans, le-of-suc-le-suc, eq-or-lt-of-le}
+use mathlib.Core.Bool.{Bool, true, false}
+use native.Mathlib.Nat.{le-antisymm, le-trans}
 use native.Mathlib.Omega.{arith}
 use lib.ListN.{length, getD, List·getD-eq-default}
 use lib.Dec.{T, ltb, leb→le, le→leb, ltb→lt, nltb→le}
 use lib.IntN.{ℤ, pos, negsuc}
 use lib.Signed.{ltZ, leZ, _≤ℤ_, _<ℤ_, leZ-yes, ltZ-yes, ltZ-no, ≤ℤ-refl}
+use Rattle.bools.specs.Tests.{is-true, is-false, fails, by-cases}
 use Rattle.priority.specs.Priority.{under}
 
 -- no number of the list comes again
@@ -21,43 +22,6 @@ Distinct (x ∷ xs) = (List·Memᴰ x xs → ⊥) × Distinct xs
 abbrev pub Rising : (ℕ → ℤ) → List ℕ → Type 0
 Rising key [] = Unit {0}
 Rising key (x ∷ xs) = ((n : ℕ) → List·Memᴰ n xs → key x <ℤ key n) × Rising key xs
-
--- ---- tests
-
-pub is-true : {b : Bool} → b ≡ true → T b
-is-true e = subst T (sym e) tt
-
-pub is-false : {b : Bool} → b ≡ false → T b → ⊥
-is-false e t = subst T e t
-
-pub fails : {b : Bool} → b ≡ false → T (not b)
-fails e = subst (λ b. T (not b)) (sym e) tt
-
-pub both : (a b : Bool) → T (a && b) → T a × T b
-both true true t = (tt, tt)
-both true false t = absurd t
-both false b t = absurd t
-
-pub join : (a b : Bool) → T a → T b → T (a && b)
-join true true s t = tt
-join true false s t = t
-join false b s t = absurd s
-
-pub either : (a b : Bool) → T (a || b) → T a ⊎ T b
-either true b t = inl tt
-either false b t = inr t
-
-pub by-cases {ℓ} : {A : Type ℓ} (P : A → Type 0) (b : Bool) {x y : A} → (T b → P x) → (T (not b) → P y) → P (cond b x y)
-by-cases P true f g = f tt
-by-cases P false f g = g tt
-
--- the numbers below k + 1: those below k, and k
-pub below-suc : {A : Type 0} (m k : ℕ) → m < suc k → (m ≡ k → A) → (m < k → A) → A
-below-suc {A} m k h f g = go (eq-or-lt-of-le (le-of-suc-le-suc h))
-  where
-    go : (m ≡ k) ⊎ (m < k) → A
-    go (inl e) = f e
-    go (inr l) = g l
 
 -- a flag that is set stands within the list
 pub flag-below : (flags : List Bool) (n : ℕ) → T (getD flags n false) → n < length flags

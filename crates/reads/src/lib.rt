@@ -1,17 +1,14 @@
 // Register reads on lent lists, for every chip: what each register reads, and what a read leaves.
 ghost use mathlib.Core.Path.{_≡_};
-ghost use mathlib.Core.Bool.{Bool};
-ghost use mathlib.Core.List.{List};
-ghost use Prim.Native.Nat.{ℕ, _-_, _/_, _<_};
-ghost use Rattle.rules.specs.declared.Core.{Core};
+ghost use Rattle.rules.specs.Model.{Model, down, top, withPending, withActive, withEnabled, withPriority, withNest, withCore};
+ghost use Rattle.rules.specs.Lent.{answer};
+ghost use Prim.Native.Nat.{_-_, _/_, _<_};
 ghost use Rattle.rules.specs.declared.Register.the-variants.{Timer};
-ghost use Rattle.rules.specs.Lent.{modelOf, answerOf};
-ghost use Rattle.rules.specs.Model.{down, top};
 ghost use Rattle.rules.specs.Reads.{bankValue, intctrlValue, systemValue, valueOf, afterRead};
 ghost use Rattle.rules.specs.Registers.{readCall};
-use outcome::accepted;
-use outcome::is_privileged;
-use outcome::refused;
+use parts::accepted;
+use parts::is_privileged;
+use parts::refused;
 use rules::Bank;
 use rules::Chip;
 use rules::Core;
@@ -21,7 +18,7 @@ use rules::SystemRegister;
 use rules::TimerRegister;
 
 fn bank_value(bank: Bank, n: usize, pending: &[bool], active: &[bool], enabled: &[bool]) -> u32
-    ensures { λ r. ⌜ ((level : List Bool) (priority nest : List ℕ) (core : Core) → r ≡ bankValue bank n (modelOf (now (pending .entry)) (now (active .entry)) (now (enabled .entry)) level priority nest core)) ⌝ }
+    ensures { λ r. ⌜ ((m : Model) → r ≡ bankValue bank n (withEnabled (now (enabled .entry)) (withActive (now (active .entry)) (withPending (now (pending .entry)) m)))) ⌝ }
 {
     match bank {
         Bank::EnableSet => flag_words::flags_word(enabled, n),
@@ -58,7 +55,7 @@ fn system_value(
     core: Core,
 ) -> u32
     requires { ⌜ core .group < 8 ⌝ }
-    ensures { λ r. ⌜ ((level : List Bool) (priority : List ℕ) → r ≡ systemValue chip register (modelOf (now (pending .entry)) (now (active .entry)) (now (enabled .entry)) level priority (now (nest .entry)) core)) ⌝ }
+    ensures { λ r. ⌜ ((m : Model) → r ≡ systemValue chip register (withCore core (withNest (now (nest .entry)) (withEnabled (now (enabled .entry)) (withActive (now (active .entry)) (withPending (now (pending .entry)) m)))))) ⌝ }
 {
     let system = core.system;
     match register {
@@ -89,7 +86,7 @@ fn value_of(
     core: Core,
 ) -> u32
     requires { ⌜ core .group < 8 ⌝ }
-    ensures { λ r. ⌜ ((level : List Bool) → r ≡ valueOf chip register (modelOf (now (pending .entry)) (now (active .entry)) (now (enabled .entry)) level (now (priority .entry)) (now (nest .entry)) core)) ⌝ }
+    ensures { λ r. ⌜ ((m : Model) → r ≡ valueOf chip register (withCore core (withNest (now (nest .entry)) (withPriority (now (priority .entry)) (withEnabled (now (enabled .entry)) (withActive (now (active .entry)) (withPending (now (pending .entry)) m))))))) ⌝ }
 {
     let timer = core.timer;
     let guard = core.guard;
@@ -104,7 +101,7 @@ fn value_of(
 }
 
 fn timer_read(mut core: Core, register: TimerRegister) -> Core
-    ensures { λ r. ⌜ ((pending active enabled level : List Bool) (priority nest : List ℕ) → modelOf pending active enabled level priority nest r ≡ afterRead (Timer register) (modelOf pending active enabled level priority nest core)) ⌝ }
+    ensures { λ r. ⌜ ((m : Model) → withCore r m ≡ afterRead (Timer register) (withCore core m)) ⌝ }
 {
     let timer = core.timer;
     let next = system::timer::timer_read(timer, register);
@@ -114,7 +111,7 @@ fn timer_read(mut core: Core, register: TimerRegister) -> Core
 
 // Only a read of STCTRL changes anything.
 fn after_read(core: Core, register: Register) -> Core
-    ensures { λ r. ⌜ ((pending active enabled level : List Bool) (priority nest : List ℕ) → modelOf pending active enabled level priority nest r ≡ afterRead register (modelOf pending active enabled level priority nest core)) ⌝ }
+    ensures { λ r. ⌜ ((m : Model) → withCore r m ≡ afterRead register (withCore core m)) ⌝ }
 {
     match register {
         Register::Missing => core,
@@ -138,7 +135,7 @@ pub fn read(
     address: u32,
 ) -> Outcome
     requires { ⌜ core .group < 8 ⌝ }
-    ensures { λ r. ⌜ ((level : List Bool) → answerOf r (now (pending .entry)) (now (active .entry)) (now (enabled .entry)) level (now (priority .entry)) (now (nest .entry)) ≡ readCall chip (modelOf (now (pending .entry)) (now (active .entry)) (now (enabled .entry)) level (now (priority .entry)) (now (nest .entry)) core) width address) ⌝ }
+    ensures { λ r. ⌜ ((m : Model) → answer r (withNest (now (nest .entry)) (withPriority (now (priority .entry)) (withEnabled (now (enabled .entry)) (withActive (now (active .entry)) (withPending (now (pending .entry)) m))))) ≡ readCall chip (withCore core (withNest (now (nest .entry)) (withPriority (now (priority .entry)) (withEnabled (now (enabled .entry)) (withActive (now (active .entry)) (withPending (now (pending .entry)) m)))))) width address) ⌝ }
 {
     let register = map::register_at(chip, address - address % 4);
     let refusal = map::checks::access_refusal(register, is_privileged(core), width, address);

@@ -1,17 +1,17 @@
 // Exception return on lent lists, for every chip.
 ghost use mathlib.Core.Path.{_≡_};
-ghost use mathlib.Core.Bool.{Bool, true, cond};
-ghost use mathlib.Core.List.{List};
-ghost use Prim.Native.Nat.{ℕ, _<_};
+ghost use Rattle.rules.specs.Model.{Model, withPending, withActive, withLevel, withNest, withCore};
+ghost use Rattle.rules.specs.Lent.{answer};
+ghost use mathlib.Core.Bool.{true, cond};
+ghost use Prim.Native.Nat.{_<_};
 ghost use lib.ListN.{set};
 ghost use Rattle.flag_words.specs.Flags.{on};
-ghost use Rattle.rules.specs.Lent.{modelOf, answerOf};
 ghost use Rattle.rules.specs.Nesting.{returned, returnCall};
 use nvic::bytes::store_byte;
 use nvic::flags::flag_at;
 use nvic::flags::store_flag;
-use outcome::accepted;
-use outcome::refused;
+use parts::accepted;
+use parts::refused;
 use rules::Core;
 use rules::Outcome;
 
@@ -34,7 +34,7 @@ fn leave(
     value: u32,
 ) -> Core
     requires { ⌜ 0 < core .depth ⌝ }
-    ensures { λ r. ⌜ ((enabled : List Bool) (priority : List ℕ) → modelOf (now (pending .exit)) (now (active .exit)) enabled (now (level .entry)) priority (now (nest .exit)) r ≡ returned value (modelOf (now (pending .entry)) (now (active .entry)) enabled (now (level .entry)) priority (now (nest .entry)) core)) ⌝ }
+    ensures { λ r. ⌜ ((m : Model) → withCore r (withNest (now (nest .exit)) (withLevel (now (level .entry)) (withActive (now (active .exit)) (withPending (now (pending .exit)) m)))) ≡ returned value (withCore core (withNest (now (nest .entry)) (withLevel (now (level .entry)) (withActive (now (active .entry)) (withPending (now (pending .entry)) m)))))) ⌝ }
 {
     let top = nvic::nest::top_of(nest, core.depth) as usize;
     repend(pending, level, top);
@@ -56,7 +56,7 @@ pub fn return_(
     core: Core,
     value: u32,
 ) -> Outcome
-    ensures { λ r. ⌜ ((enabled : List Bool) (priority : List ℕ) → answerOf r (now (pending .exit)) (now (active .exit)) enabled (now (level .entry)) priority (now (nest .exit)) ≡ returnCall (modelOf (now (pending .entry)) (now (active .entry)) enabled (now (level .entry)) priority (now (nest .entry)) core) value) ⌝ }
+    ensures { λ r. ⌜ ((m : Model) → answer r (withNest (now (nest .exit)) (withLevel (now (level .entry)) (withActive (now (active .exit)) (withPending (now (pending .exit)) m)))) ≡ returnCall (withCore core (withNest (now (nest .entry)) (withLevel (now (level .entry)) (withActive (now (active .entry)) (withPending (now (pending .entry)) m))))) value) ⌝ }
 {
     if nvic::nest::link_fits(core.depth, value) {
         let newest = nvic::nest::top_of(nest, core.depth - 1);

@@ -1,12 +1,1 @@
 pub mod Table
-pub mod Words
-pub mod Exceptions
-pub mod Parts
-pub mod Check
-pub mod Quiet
-pub mod Events
-pub mod Registers
-pub mod Nesting
-pub mod Steps
-pub mod Demand3
-pub mod Bounds

@@ -1,6 +1,7 @@
 pub mod Chip
 pub mod Model
 pub mod Priorities
+pub mod SystemBlock
 pub mod Sound
 pub mod Events
 pub mod Nesting
@@ -8,7 +9,9 @@ pub mod Map
 pub mod Reads
 pub mod Writes
 pub mod Registers
+pub mod Access
 pub mod Step
 pub mod Lent
-pub mod Demand3
+pub mod Laws
 pub mod Table
+pub mod LineLaws

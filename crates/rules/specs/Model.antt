@@ -9,11 +9,13 @@ use Rattle.mpu.specs.declared.Mpu.{Mpu}
 use Rattle.mpu.specs.Registers.{freshMpu}
 use Rattle.rules.specs.declared.Masks.{Masks}
 use Rattle.rules.specs.declared.System.{System}
+use Rattle.rules.specs.declared.Core.{Core}
 use Rattle.rules.specs.declared.Chip.{Chip}
 use Rattle.rules.specs.Chip.{flagCount, exceptionCount}
 
 -- Flags and priority bytes stand at exception numbers. The nest (document 01's word for the stack of active exceptions) holds
--- exception numbers, the newest last; its first `depth` places are in use. `group` is the group setting p.
+-- exception numbers, the newest last; its first `depth` places are in use. `core` is what holds no list: `depth`, the group setting p as
+-- `group`, the masks, the timer, the guard, the system block.
 pub record Model : Type 0 where
   pub pending : List Bool
   pub active : List Bool
@@ -21,12 +23,7 @@ pub record Model : Type 0 where
   pub level : List Bool
   pub priority : List ℕ
   pub nest : List ℕ
-  pub depth : ℕ
-  pub group : ℕ
-  pub masks : Masks
-  pub timer : Timer
-  pub guard : Mpu
-  pub system : System
+  pub core : Core
 
 -- ---- the nest, newest first
 
@@ -35,7 +32,11 @@ down l zero = []
 down l (suc d) = getD l d 0 ∷ down l d
 
 abbrev pub stack : Model → List ℕ
-stack m = down (m .nest) (m .depth)
+stack m = down (m .nest) (m .core .depth)
+
+-- how many are nested
+abbrev pub depthOf : Model → ℕ
+depthOf m = m .core .depth
 
 -- 0 for thread mode
 abbrev pub top : List ℕ → ℕ
@@ -50,6 +51,9 @@ freshMasks = record { primask = false; faultmask = false; basepri = 0; npriv = f
 abbrev pub freshSystem : System
 freshSystem = record { vtable = 0; sysctrl = 0; cfgctrl = 0x200; faultstat = 0; hfaultstat = 0; mmaddr = 0; faultaddr = 0 }
 
+abbrev pub freshCore : Core
+freshCore = record { depth = 0; group = 0; masks = freshMasks; timer = freshTimer; guard = freshMpu; system = freshSystem }
+
 unfoldable pub fresh : Chip → Model
 fresh c =
     record {
@@ -59,56 +63,69 @@ fresh c =
       level = replicate (flagCount c) false;
       priority = replicate (flagCount c) 0;
       nest = replicate (exceptionCount c) 0;
-      depth = 0;
-      group = 0;
-      masks = freshMasks;
-      timer = freshTimer;
-      guard = freshMpu;
-      system = freshSystem;
+      core = freshCore;
     }
 
 -- ---- a model with one part put anew
 
 abbrev pub withPending : List Bool → Model → Model
-withPending x m =
-    record { pending = x; active = m .active; enabled = m .enabled; level = m .level; priority = m .priority; nest = m .nest; depth = m .depth; group = m .group; masks = m .masks; timer = m .timer; guard = m .guard; system = m .system }
+withPending x m = record { pending = x; active = m .active; enabled = m .enabled; level = m .level; priority = m .priority; nest = m .nest; core = m .core }
+
+abbrev pub withActive : List Bool → Model → Model
+withActive x m = record { pending = m .pending; active = x; enabled = m .enabled; level = m .level; priority = m .priority; nest = m .nest; core = m .core }
 
 abbrev pub withEnabled : List Bool → Model → Model
-withEnabled x m =
-    record { pending = m .pending; active = m .active; enabled = x; level = m .level; priority = m .priority; nest = m .nest; depth = m .depth; group = m .group; masks = m .masks; timer = m .timer; guard = m .guard; system = m .system }
+withEnabled x m = record { pending = m .pending; active = m .active; enabled = x; level = m .level; priority = m .priority; nest = m .nest; core = m .core }
 
 abbrev pub withLevel : List Bool → Model → Model
-withLevel x m =
-    record { pending = m .pending; active = m .active; enabled = m .enabled; level = x; priority = m .priority; nest = m .nest; depth = m .depth; group = m .group; masks = m .masks; timer = m .timer; guard = m .guard; system = m .system }
+withLevel x m = record { pending = m .pending; active = m .active; enabled = m .enabled; level = x; priority = m .priority; nest = m .nest; core = m .core }
 
 abbrev pub withPriority : List ℕ → Model → Model
-withPriority x m =
-    record { pending = m .pending; active = m .active; enabled = m .enabled; level = m .level; priority = x; nest = m .nest; depth = m .depth; group = m .group; masks = m .masks; timer = m .timer; guard = m .guard; system = m .system }
+withPriority x m = record { pending = m .pending; active = m .active; enabled = m .enabled; level = m .level; priority = x; nest = m .nest; core = m .core }
+
+abbrev pub withNest : List ℕ → Model → Model
+withNest x m = record { pending = m .pending; active = m .active; enabled = m .enabled; level = m .level; priority = m .priority; nest = x; core = m .core }
+
+abbrev pub withCore : Core → Model → Model
+withCore x m = record { pending = m .pending; active = m .active; enabled = m .enabled; level = m .level; priority = m .priority; nest = m .nest; core = x }
+
+-- ---- a core with one part put anew, and a model with such a core
+
+abbrev pub putDepth : ℕ → Core → Core
+putDepth x k = record { depth = x; group = k .group; masks = k .masks; timer = k .timer; guard = k .guard; system = k .system }
+
+abbrev pub putGroup : ℕ → Core → Core
+putGroup x k = record { depth = k .depth; group = x; masks = k .masks; timer = k .timer; guard = k .guard; system = k .system }
+
+abbrev pub putMasks : Masks → Core → Core
+putMasks x k = record { depth = k .depth; group = k .group; masks = x; timer = k .timer; guard = k .guard; system = k .system }
+
+abbrev pub putTimer : Timer → Core → Core
+putTimer x k = record { depth = k .depth; group = k .group; masks = k .masks; timer = x; guard = k .guard; system = k .system }
+
+abbrev pub putGuard : Mpu → Core → Core
+putGuard x k = record { depth = k .depth; group = k .group; masks = k .masks; timer = k .timer; guard = x; system = k .system }
+
+abbrev pub putSystem : System → Core → Core
+putSystem x k = record { depth = k .depth; group = k .group; masks = k .masks; timer = k .timer; guard = k .guard; system = x }
+
+abbrev pub withDepth : ℕ → Model → Model
+withDepth x m = withCore (putDepth x (m .core)) m
 
 abbrev pub withGroup : ℕ → Model → Model
-withGroup x m =
-    record { pending = m .pending; active = m .active; enabled = m .enabled; level = m .level; priority = m .priority; nest = m .nest; depth = m .depth; group = x; masks = m .masks; timer = m .timer; guard = m .guard; system = m .system }
+withGroup x m = withCore (putGroup x (m .core)) m
 
 abbrev pub withMasks : Masks → Model → Model
-withMasks x m =
-    record { pending = m .pending; active = m .active; enabled = m .enabled; level = m .level; priority = m .priority; nest = m .nest; depth = m .depth; group = m .group; masks = x; timer = m .timer; guard = m .guard; system = m .system }
+withMasks x m = withCore (putMasks x (m .core)) m
 
 abbrev pub withTimer : Timer → Model → Model
-withTimer x m =
-    record { pending = m .pending; active = m .active; enabled = m .enabled; level = m .level; priority = m .priority; nest = m .nest; depth = m .depth; group = m .group; masks = m .masks; timer = x; guard = m .guard; system = m .system }
+withTimer x m = withCore (putTimer x (m .core)) m
 
 abbrev pub withGuard : Mpu → Model → Model
-withGuard x m =
-    record { pending = m .pending; active = m .active; enabled = m .enabled; level = m .level; priority = m .priority; nest = m .nest; depth = m .depth; group = m .group; masks = m .masks; timer = m .timer; guard = x; system = m .system }
+withGuard x m = withCore (putGuard x (m .core)) m
 
 abbrev pub withSystem : System → Model → Model
-withSystem x m =
-    record { pending = m .pending; active = m .active; enabled = m .enabled; level = m .level; priority = m .priority; nest = m .nest; depth = m .depth; group = m .group; masks = m .masks; timer = m .timer; guard = m .guard; system = x }
-
--- the nest with its active flags, as entry and return change them
-abbrev pub withNest : List Bool → List ℕ → ℕ → Model → Model
-withNest x nest depth m =
-    record { pending = m .pending; active = x; enabled = m .enabled; level = m .level; priority = m .priority; nest = nest; depth = depth; group = m .group; masks = m .masks; timer = m .timer; guard = m .guard; system = m .system }
+withSystem x m = withCore (putSystem x (m .core)) m
 
 -- ---- answers: "A refusal returns its number with every other field 0 and changes nothing."
 

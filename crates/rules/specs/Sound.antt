@@ -1,13 +1,14 @@
 -- Document 01, "The chip": "A state is sound if each field holds only the bits kept here, flags stand only at the 63, and the nested
 -- exceptions are distinct and exactly the active ones." As a test that computes (refusal 16), and as a record of facts.
-use Prim.Native.Nat.{ℕ, zero, suc, _+_, _≤_, _<_}
+use Prim.Native.Nat.{ℕ, _≤_, _<_}
 use mathlib.Core.Path.{_≡_}
 use mathlib.Core.List.{List, [], _∷_, List·Memᴰ}
 use mathlib.Core.Bool.{Bool, true, not, _&&_, _||_}
 use lib.ListN.{length, getD}
 use lib.Dec.{T, ltb, leb, eqb}
+use Rattle.bools.specs.Tests.{implies}
+use Rattle.bools.specs.Every.{every}
 use Rattle.flag_words.specs.Flags.{on}
-use Rattle.bits.specs.Words.{kept}
 use Rattle.priority.specs.Order.{Distinct}
 use Rattle.grouping.specs.Grouping.{keptByte}
 use Rattle.systick.specs.Timer.{soundTimer, SoundTimer}
@@ -16,38 +17,12 @@ use Rattle.rules.specs.declared.Chip.{Chip}
 use Rattle.rules.specs.declared.Place.{Place}
 use Rattle.rules.specs.declared.Place.the-variants.{Exception, Enable, Line}
 use Rattle.rules.specs.declared.System.{System}
+use Rattle.rules.specs.declared.Core.{Core}
+use Rattle.rules.specs.SystemBlock.{keptVtable, keptSysctrl, keptCfgctrl, keptFaultstat, keptHfaultstat}
 use Rattle.rules.specs.Chip.{flagCount, exceptionCount, isIn, hasByte, stands}
 use Rattle.rules.specs.Model.{Model, down, stack}
 
--- ---- kept bits of the system block
-
--- "VTABLE, bits 29:9 kept"
-abbrev pub keptVtable : ℕ → ℕ
-keptVtable x = kept 29 9 x
-
--- ED10: "bits 4, 2, 1 kept"
-abbrev pub keptSysctrl : ℕ → ℕ
-keptSysctrl x = kept 4 4 x + kept 2 1 x
-
--- "CFGCTRL, mask 0x31A kept": bits 9:8, 4:3, 1
-abbrev pub keptCfgctrl : ℕ → ℕ
-keptCfgctrl x = kept 9 8 x + kept 4 3 x + kept 1 1 x
-
--- the bits that a fault event can set: 0, 1, 7, 8, 9, 15, 16 to 19, 24, 25
-abbrev pub keptFaultstat : ℕ → ℕ
-keptFaultstat x = kept 25 24 x + kept 19 15 x + kept 9 7 x + kept 1 0 x
-
-abbrev pub keptHfaultstat : ℕ → ℕ
-keptHfaultstat x = kept 30 30 x
-
 -- ---- the test
-
-abbrev pub implies : Bool → Bool → Bool
-implies a b = not a || b
-
-unfoldable pub every : (ℕ → Bool) → ℕ → Bool
-every p zero = true
-every p (suc k) = p k && every p k
 
 -- flag n stands only where it may
 unfoldable pub flagSound : Chip → Place → List Bool → ℕ → Bool
@@ -112,12 +87,12 @@ isSound c m =
     isSized c m
     && soundFlags c (m .pending) (m .active) (m .enabled) (m .level)
     && every (byteSound c (m .priority)) (flagCount c)
-    && soundNest c (m .active) (m .nest) (m .depth)
-    && ltb (m .group) 8
-    && eqb (keptByte (c .bits) (m .masks .basepri)) (m .masks .basepri)
-    && soundTimer (m .timer)
-    && soundMpu (m .guard)
-    && soundSystem (m .system)
+    && soundNest c (m .active) (m .nest) (m .core .depth)
+    && ltb (m .core .group) 8
+    && eqb (keptByte (c .bits) (m .core .masks .basepri)) (m .core .masks .basepri)
+    && soundTimer (m .core .timer)
+    && soundMpu (m .core .guard)
+    && soundSystem (m .core .system)
 
 -- ---- the facts, part by part: each names only the fields that it is about
 
@@ -127,7 +102,7 @@ pub record Flags (c : Chip) (place : Place) (l : List Bool) : Type 0 where
   pub only : (n : ℕ) → T (on l n) → T (stands c place n)
 
 -- priority bytes: the kept bits, and 0 where there is no byte
-pub record Bytes (c : Chip) (l : List ℕ) : Type 0 where
+pub record PriorityBytes (c : Chip) (l : List ℕ) : Type 0 where
   pub size : length l ≡ flagCount c
   pub each : (n : ℕ) → keptByte (c .bits) (getD l n 0) ≡ getD l n 0
   pub none : (n : ℕ) → (T (hasByte c n) → ⊥) → getD l n 0 ≡ 0
@@ -150,16 +125,20 @@ pub record SoundSystem (s : System) : Type 0 where
   pub faultstat : keptFaultstat (s .faultstat) ≡ s .faultstat
   pub hfaultstat : keptHfaultstat (s .hfaultstat) ≡ s .hfaultstat
 
+-- what holds no list; the nest's depth is a matter of its places
+pub record SoundCore (c : Chip) (k : Core) : Type 0 where
+  pub group : k .group < 8
+  pub basepri : keptByte (c .bits) (k .masks .basepri) ≡ k .masks .basepri
+  pub timer : SoundTimer (k .timer)
+  pub guard : SoundMpu (k .guard)
+  pub system : SoundSystem (k .system)
+
 pub record Sound (c : Chip) (m : Model) : Type 0 where
   pub pending : Flags c Exception (m .pending)
   pub active : Flags c Exception (m .active)
   pub enabled : Flags c Enable (m .enabled)
   pub level : Flags c Line (m .level)
-  pub priority : Bytes c (m .priority)
-  pub places : Places c (m .nest) (m .depth)
+  pub priority : PriorityBytes c (m .priority)
+  pub places : Places c (m .nest) (m .core .depth)
   pub nested : Nested (m .active) (stack m)
-  pub group : m .group < 8
-  pub basepri : keptByte (c .bits) (m .masks .basepri) ≡ m .masks .basepri
-  pub timer : SoundTimer (m .timer)
-  pub guard : SoundMpu (m .guard)
-  pub system : SoundSystem (m .system)
+  pub core : SoundCore c (m .core)

@@ -1,37 +1,16 @@
--- Document 01, "Access verdicts" as a call; then every event, by one clause a kind. Refusal 16 comes first.
-use Prim.Native.Nat.{ℕ, _%_}
+-- Every event, by one clause a kind. Refusal 16 comes first.
 use mathlib.Core.List.{List, [], _∷_}
-use mathlib.Core.Bool.{Bool, not, cond}
-use lib.Dec.{ltb, eqb}
-use Rattle.verdicts.specs.declared.Access.{Access}
-use Rattle.verdicts.specs.declared.Access.the-variants as access
-use Rattle.verdicts.specs.Verdict.{verdict}
+use mathlib.Core.Bool.{cond}
 use Rattle.script.specs.declared.Event.{Event}
 use Rattle.script.specs.declared.Event.the-variants as event
 use Rattle.script.specs.Event.{accessNumber}
 use Rattle.rules.specs.declared.Chip.{Chip}
-use Rattle.rules.specs.Model.{Model, Answer, refuse, done}
-use Rattle.rules.specs.Priorities.{isNegative, privileged}
+use Rattle.rules.specs.Model.{Model, Answer, refuse}
 use Rattle.rules.specs.Sound.{isSound}
 use Rattle.rules.specs.Events.{lineCall, nmiCall, tickCall, faultCall, svcCall, specialCall}
 use Rattle.rules.specs.Nesting.{entryCall, returnCall}
-use Rattle.rules.specs.Registers.{isWidth, readCall, writeCall}
-
--- "Kinds: 0 read, 1 write, 2 fetch"
-unfoldable pub purposeOf : ℕ → Access
-purposeOf k = cond (eqb k 0) access.Read (cond (eqb k 1) access.Write access.Fetch)
-
--- "width not 1, 2 or 4; a fetch not 2"
-unfoldable pub fitsAccess : ℕ → ℕ → Bool
-fitsAccess k w = cond (eqb k 2) (eqb w 2) (isWidth w)
-
--- "The state stays."
-unfoldable pub accessCall : Model → ℕ → ℕ → ℕ → Answer
-accessCall m k w a =
-    cond (ltb 2 k) (refuse 6 m)
-    (cond (not (fitsAccess k w)) (refuse 1 m)
-    (cond (not (eqb (a % w) 0)) (refuse 2 m)
-    (done (verdict (m .guard) (purposeOf k) a (privileged m) (isNegative m)) m)))
+use Rattle.rules.specs.Registers.{readCall, writeCall}
+use Rattle.rules.specs.Access.{accessCall}
 
 -- what an event does to a sound model
 abbrev pub actOf : Chip → Model → Event → Answer

@@ -22,7 +22,7 @@ use Rattle.rules.specs.declared.Register.the-variants as reg
 use Rattle.rules.specs.declared.Chip.{Chip}
 use Rattle.rules.specs.Chip.{hasByte}
 use Rattle.rules.specs.Model.{Model, withPending, withEnabled, withPriority, withGroup, withTimer, withGuard, withSystem}
-use Rattle.rules.specs.Sound.{keptVtable, keptSysctrl, keptCfgctrl}
+use Rattle.rules.specs.SystemBlock.{keptVtable, keptSysctrl, keptCfgctrl}
 
 unfoldable pub timerWritten : TimerRegister → ℕ → Timer → Timer
 timerWritten Stctrl v t = writeControl v t
@@ -113,14 +113,14 @@ storedWritten Swtrig v s = s
 
 unfoldable pub systemWritten : Chip → SystemRegister → ℕ → Model → Model
 systemWritten c Intctrl v m = withPending (intctrlWritten v (m .pending)) m
-systemWritten c Apint v m = withGroup (apintWritten v (m .group)) m
+systemWritten c Apint v m = withGroup (apintWritten v (m .core .group)) m
 systemWritten c Syshndctrl v m = withEnabled (syshndctrlWritten v (m .enabled)) m
 systemWritten c Swtrig v m = withPending (swtrigWritten c v (m .pending)) m
-systemWritten c Vtable v m = withSystem (storedWritten Vtable v (m .system)) m
-systemWritten c Sysctrl v m = withSystem (storedWritten Sysctrl v (m .system)) m
-systemWritten c Cfgctrl v m = withSystem (storedWritten Cfgctrl v (m .system)) m
-systemWritten c Faultstat v m = withSystem (storedWritten Faultstat v (m .system)) m
-systemWritten c Hfaultstat v m = withSystem (storedWritten Hfaultstat v (m .system)) m
+systemWritten c Vtable v m = withSystem (storedWritten Vtable v (m .core .system)) m
+systemWritten c Sysctrl v m = withSystem (storedWritten Sysctrl v (m .core .system)) m
+systemWritten c Cfgctrl v m = withSystem (storedWritten Cfgctrl v (m .core .system)) m
+systemWritten c Faultstat v m = withSystem (storedWritten Faultstat v (m .core .system)) m
+systemWritten c Hfaultstat v m = withSystem (storedWritten Hfaultstat v (m .core .system)) m
 systemWritten c Ictype v m = m
 systemWritten c Cpuid v m = m
 systemWritten c Mmaddr v m = m
@@ -128,11 +128,11 @@ systemWritten c Faultaddr v m = m
 
 unfoldable pub wordWritten : Chip → Register → ℕ → Model → Model
 wordWritten c reg.Missing v m = m
-wordWritten c (reg.Timer r) v m = withTimer (timerWritten r v (m .timer)) m
+wordWritten c (reg.Timer r) v m = withTimer (timerWritten r v (m .core .timer)) m
 wordWritten c (reg.Flags b n) v m = bankWritten b n v m
 wordWritten c (reg.Priority n) v m = withPriority (withBytes c n v (m .priority)) m
 wordWritten c (reg.System r) v m = systemWritten c r v m
-wordWritten c (reg.Guard r) v m = withGuard (writeMpu r v (m .guard)) m
+wordWritten c (reg.Guard r) v m = withGuard (writeMpu r v (m .core .guard)) m
 
 -- bytes "written from the value's low 8 bits"; only priority bytes are written so
 unfoldable pub byteWritten : Chip → Register → ℕ → ℕ → Model → Model

@@ -1,3 +1,4 @@
+pub mod Answers
 pub mod Event
 pub mod EventLaws
 pub mod Examples

@@ -6,7 +6,7 @@ use mathlib.Core.Bool.{Bool, cond}
 use lib.ListN.{take}
 use Rattle.numbers.specs.declared.Number.{Number}
 use Rattle.numbers.specs.declared.Number.the-variants.{Value}
-use Rattle.script.specs.declared.writing.Numbers.{Numbers}
+use Rattle.script.specs.declared.writing.Spelled.{Spelled}
 use Rattle.script.specs.Event.{arity}
 use Rattle.numbers.specs.Number.{numberAt, numberBytes}
 
@@ -18,5 +18,5 @@ numberIf bytes at there = cond there (numberAt bytes at) (Value 0 at)
 unfoldable pub bytesIf : Bool → ℕ → List ℕ
 bytesIf there n = cond there (numberBytes n) []
 
-unfoldable pub numbersOf : Numbers → List ℕ
+unfoldable pub numbersOf : Spelled → List ℕ
 numbersOf n = n .0 ∷ take (arity (n .0)) (n .1 ∷ (n .2 ∷ (n .3 ∷ [])))

@@ -1,5 +1,6 @@
 // One event read from a script.
 ghost use mathlib.Core.Path.{_≡_};
+ghost use Rattle.script.specs.Answers.{readAnswer};
 ghost use Rattle.script.specs.Event.{arity};
 ghost use Rattle.script.specs.Reading.{numbersAt, eventOf, withArguments, readEvent};
 ghost use Rattle.script.specs.Steps.{numberIf};
@@ -56,6 +57,7 @@ fn read_arguments(script: &[u8], at: usize, kind: u32) -> ReadEvent
 // The event that starts at an offset of a script.
 pub fn read_event(script: &[u8], at: usize) -> ReadEvent
     ensures { λ r. ⌜ r ≡ readEvent (now (script .entry)) at ⌝ }
+    ensures numbers { λ r. ⌜ readAnswer r ≡ readAnswer (readEvent (now (script .entry)) at) ⌝ }
 {
     if 65536 < script.len() {
         return ReadEvent::Refused(15);

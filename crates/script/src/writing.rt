@@ -4,6 +4,7 @@ ghost use mathlib.Core.List.{_∷_};
 ghost use Prim.Native.Nat.{_+_, _≤_};
 ghost use lib.ListN.{length};
 ghost use lib.Seq.{sets};
+ghost use Rattle.script.specs.Answers.{writtenAnswer};
 ghost use Rattle.script.specs.Event.{kindOf, argumentsOf};
 ghost use Rattle.script.specs.Steps.{bytesIf, numbersOf};
 ghost use Rattle.script.specs.Writing.{numbersBytes, writeEvent, bytesAfter};
@@ -14,23 +15,23 @@ use numbers::size;
 use numbers::write_groups;
 
 // The kind of an event and three arguments, 0 where its kind has fewer.
-struct Numbers(u32, u32, u32, u32);
+struct Spelled(u32, u32, u32, u32);
 
-fn numbers_of(e: Event) -> Numbers
+fn numbers_of(e: Event) -> Spelled
     ensures { λ r. ⌜ numbersOf r ≡ kindOf e ∷ argumentsOf e ⌝ }
 {
     match e {
-        Event::Read(width, address) => Numbers(1, width, address, 0),
-        Event::Write(width, address, value) => Numbers(2, width, address, value),
-        Event::Line(line, level) => Numbers(3, line, level, 0),
-        Event::Nmi => Numbers(4, 0, 0, 0),
-        Event::Tick => Numbers(5, 0, 0, 0),
-        Event::Fault(bit, address) => Numbers(6, bit, address, 0),
-        Event::Svc => Numbers(7, 0, 0, 0),
-        Event::Special(which, value) => Numbers(8, which, value, 0),
-        Event::Entry => Numbers(9, 0, 0, 0),
-        Event::Return(value) => Numbers(10, value, 0, 0),
-        Event::Access(kind, width, address) => Numbers(11, access_number(kind), width, address),
+        Event::Read(width, address) => Spelled(1, width, address, 0),
+        Event::Write(width, address, value) => Spelled(2, width, address, value),
+        Event::Line(line, level) => Spelled(3, line, level, 0),
+        Event::Nmi => Spelled(4, 0, 0, 0),
+        Event::Tick => Spelled(5, 0, 0, 0),
+        Event::Fault(bit, address) => Spelled(6, bit, address, 0),
+        Event::Svc => Spelled(7, 0, 0, 0),
+        Event::Special(which, value) => Spelled(8, which, value, 0),
+        Event::Entry => Spelled(9, 0, 0, 0),
+        Event::Return(value) => Spelled(10, value, 0, 0),
+        Event::Access(kind, width, address) => Spelled(11, access_number(kind), width, address),
     }
 }
 
@@ -45,7 +46,7 @@ fn size_if(n: u32, there: bool) -> usize
 }
 
 // How many bytes an event takes.
-fn event_size(n: Numbers) -> usize
+fn event_size(n: Spelled) -> usize
     ensures { λ r. ⌜ r ≡ length (numbersBytes (numbersOf n)) ⌝ }
 {
     let count = crate::arity(n.0);
@@ -66,7 +67,7 @@ fn put_if(out: &mut [u8], at: usize, n: u32, there: bool) -> usize
 }
 
 // Writes the numbers of an event. Called where they fit.
-fn put_all(out: &mut [u8], at: usize, n: Numbers)
+fn put_all(out: &mut [u8], at: usize, n: Spelled)
     requires { ⌜ at + length (numbersBytes (numbersOf n)) ≤ length (now out) ⌝ }
     ensures { λ _. ⌜ now (out .exit) ≡ sets (now (out .entry)) at (numbersBytes (numbersOf n)) ⌝ }
 {
@@ -81,6 +82,7 @@ fn put_all(out: &mut [u8], at: usize, n: Numbers)
 pub fn write_event(out: &mut [u8], at: usize, e: Event) -> Written
     ensures answer { λ r. ⌜ r ≡ writeEvent (now (out .entry)) at e ⌝ }
     ensures bytes { λ _. ⌜ now (out .exit) ≡ bytesAfter (now (out .entry)) at e ⌝ }
+    ensures numbers { λ r. ⌜ writtenAnswer r ≡ writtenAnswer (writeEvent (now (out .entry)) at e) ⌝ }
 {
     if 65536 < at {
         return Written::Refused(15);

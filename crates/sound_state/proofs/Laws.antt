@@ -1,9 +1,9 @@
 -- Where the test of the lengths passes, each list has its length.
 use mathlib.Core.Path.{_≡_}
-use mathlib.Core.Bool.{Bool, true, _&&_}
+use mathlib.Core.Bool.{true}
 use lib.ListN.{length}
 use lib.Dec.{T, eqb→eq}
-use Rattle.priority.specs.Order.{is-true, both}
+use Rattle.bools.specs.Tests.{is-true, and-l, and-r}
 use Rattle.rules.specs.declared.Chip.{Chip}
 use Rattle.rules.specs.Chip.{flagCount, exceptionCount}
 use Rattle.rules.specs.Model.{Model}
@@ -16,12 +16,6 @@ pub record Sized (c : Chip) (m : Model) : Type 0 where
   pub level : length (m .level) ≡ flagCount c
   pub priority : length (m .priority) ≡ flagCount c
   pub nest : length (m .nest) ≡ exceptionCount c
-
-and-l : (a b : Bool) → T (a && b) → T a
-and-l a b t = both a b t .0
-
-and-r : (a b : Bool) → T (a && b) → T b
-and-r a b t = both a b t .1
 
 pub sized : (c : Chip) (m : Model) → isSized c m ≡ true → Sized c m
 unfolding isSized

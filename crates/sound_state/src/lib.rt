@@ -45,9 +45,8 @@ fn is_sized(
     nest.len() == 8 + chip.lines as usize
 }
 
-// The parts that hold no list. A chip keeps 3 to 8 bits of a byte, here and below.
+// The parts that hold no list.
 fn is_core_sound(chip: Chip, core: Core) -> bool
-    requires { ⌜ chip .bits ≤ 8 ⌝ }
     ensures { λ r. ⌜ r ≡ (ltb (core .group) 8 && eqb (keptByte (chip .bits) (core .masks .basepri)) (core .masks .basepri) && soundTimer (core .timer) && soundMpu (core .guard) && soundSystem (core .system)) ⌝ }
 {
     if 8 <= core.group {
@@ -79,7 +78,6 @@ pub fn is_sound(
     nest: &[u8],
     core: Core,
 ) -> bool
-    requires { ⌜ chip .bits ≤ 8 ⌝ }
     ensures { λ r. ⌜ r ≡ isSound chip (modelOf (now (pending .entry)) (now (active .entry)) (now (enabled .entry)) (now (level .entry)) (now (priority .entry)) (now (nest .entry)) core) ⌝ }
 {
     if !is_sized(chip, pending, active, enabled, level, priority, nest) {
@@ -97,7 +95,7 @@ pub fn is_sound(
     is_core_sound(chip, core)
 }
 
-// The execution priority of a sound state: its nest holds exactly the active exceptions (`execution-nest` of the rules) and is short,
+// The execution priority of a sound state: its nest holds exactly the active exceptions (`execution-nest` of `demand3`) and is short,
 // so there is no scan over all flags.
 pub fn execution(priority: &[u8], nest: &[u8], core: Core) -> i32
     requires { ⌜ core .depth ≤ length (now nest) ⌝ }

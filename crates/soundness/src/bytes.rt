@@ -5,16 +5,15 @@ use grouping::kept_byte;
 use rules::Chip;
 ghost use mathlib.Core.Path.{_≡_};
 ghost use mathlib.Core.Bool.{_&&_, _||_};
-ghost use Prim.Native.Nat.{_≤_};
 ghost use lib.Dec.{eqb};
 ghost use lib.ListN.{length};
 ghost use Rattle.grouping.specs.Grouping.{keptByte};
 ghost use Rattle.rules.specs.Chip.{flagCount, hasByte};
-ghost use Rattle.rules.specs.Sound.{every, byteSound};
+ghost use Rattle.bools.specs.Every.{every};
+ghost use Rattle.rules.specs.Sound.{byteSound};
 
-// Byte n. A byte that is 0 costs one test. Here and below, a chip keeps 3 to 8 bits of a byte.
+// Byte n. A byte that is 0 costs one test.
 fn byte_sound(chip: Chip, byte: u8, n: usize) -> bool
-    requires { ⌜ chip .bits ≤ 8 ⌝ }
     ensures { λ r. ⌜ r ≡ (eqb (keptByte (chip .bits) byte) byte && (hasByte chip n || eqb byte 0)) ⌝ }
 {
     if byte == 0 {
@@ -28,7 +27,7 @@ fn byte_sound(chip: Chip, byte: u8, n: usize) -> bool
 
 // The array of a state has the chip's length.
 pub fn bytes_sound(chip: Chip, priority: &[u8]) -> bool
-    requires { ⌜ (length (now priority) ≡ flagCount chip) × (chip .bits ≤ 8) ⌝ }
+    requires { ⌜ length (now priority) ≡ flagCount chip ⌝ }
     ensures { λ r. ⌜ r ≡ every (byteSound chip (now (priority .entry))) (flagCount chip) ⌝ }
 {
     let mut n = 0;

@@ -5,7 +5,9 @@ use rules::Place;
 ghost use mathlib.Core.Path.{_≡_};
 ghost use lib.ListN.{length};
 ghost use Rattle.rules.specs.Chip.{flagCount, stands};
-ghost use Rattle.rules.specs.Sound.{implies, every, flagSound, soundFlags};
+ghost use Rattle.bools.specs.Tests.{implies};
+ghost use Rattle.bools.specs.Every.{every};
+ghost use Rattle.rules.specs.Sound.{flagSound, soundFlags};
 
 // A flag that is not set costs one test.
 fn flag_fits(flag: bool, chip: Chip, place: Place, n: usize) -> bool

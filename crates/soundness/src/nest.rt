@@ -8,7 +8,9 @@ ghost use lib.ListN.{length, getD};
 ghost use Rattle.flag_words.specs.Flags.{on};
 ghost use Rattle.rules.specs.Chip.{flagCount, exceptionCount, isIn};
 ghost use Rattle.rules.specs.Model.{down};
-ghost use Rattle.rules.specs.Sound.{implies, every, nestedSound, allOn, allDistinct, unusedSound, soundNest};
+ghost use Rattle.bools.specs.Tests.{implies};
+ghost use Rattle.bools.specs.Every.{every};
+ghost use Rattle.rules.specs.Sound.{nestedSound, allOn, allDistinct, unusedSound, soundNest};
 
 // A place that is not in use holds 0.
 fn place_fits(used: bool, entry: u8) -> bool

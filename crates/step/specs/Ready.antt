@@ -7,10 +7,8 @@ use Rattle.rules.specs.Model.{Model}
 use Rattle.rules.specs.Priorities.{execution}
 use Rattle.rules.specs.Sound.{Sound}
 
--- The state is sound and `limit` is its execution priority. Exceptions' numbers are bytes, so a chip has at most 240 lines, and of a
--- byte it keeps at most 8 bits.
+-- The state is sound and `limit` is its execution priority. Exceptions' numbers are bytes, so a chip has at most 240 lines.
 pub record Ready (c : Chip) (m : Model) (limit : ℤ) : Type 0 where
   pub lines : c .lines ≤ 240
-  pub bits : c .bits ≤ 8
   pub sound : Sound c m
   pub priority : limit ≡ execution m

@@ -1,7 +1,7 @@
-// Any event on lent lists, for every chip. What an event leaves is sound again (`act-sound` of the rules), so a run of many events
+// Any event on lent lists, for every chip. What an event leaves is sound again (`act-sound` of `demand3`), so a run of many events
 // tests its state once.
 ghost use mathlib.Core.Path.{_≡_};
-ghost use Rattle.rules.specs.Lent.{modelOf, answerOf};
+ghost use Rattle.rules.specs.Lent.{modelOf, answer};
 ghost use Rattle.rules.specs.Step.{actOf};
 ghost use Rattle.step.specs.Ready.{Ready};
 use rules::Chip;
@@ -23,7 +23,7 @@ pub fn act(
     event: Event,
 ) -> Outcome
     requires { ⌜ Ready chip (modelOf (now pending) (now active) (now enabled) (now level) (now priority) (now nest) core) limit ⌝ }
-    ensures { λ r. ⌜ answerOf r (now (pending .exit)) (now (active .exit)) (now (enabled .exit)) (now (level .exit)) (now (priority .exit)) (now (nest .exit)) ≡ actOf chip (modelOf (now (pending .entry)) (now (active .entry)) (now (enabled .entry)) (now (level .entry)) (now (priority .entry)) (now (nest .entry)) core) event ⌝ }
+    ensures { λ r. ⌜ answer r (modelOf (now (pending .exit)) (now (active .exit)) (now (enabled .exit)) (now (level .exit)) (now (priority .exit)) (now (nest .exit)) core) ≡ actOf chip (modelOf (now (pending .entry)) (now (active .entry)) (now (enabled .entry)) (now (level .entry)) (now (priority .entry)) (now (nest .entry)) core) event ⌝ }
 {
     match event {
         Event::Read(width, address) => reads::read(

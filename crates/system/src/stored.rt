@@ -1,8 +1,9 @@
 // The registers of the system block that are plain storage.
-ghost use mathlib.Core.Bool.{_&&_};
 ghost use mathlib.Core.Path.{_≡_};
-ghost use Rattle.rules.specs.Sound.{keptSysctrl, keptCfgctrl, keptFaultstat, soundSystem};
+ghost use Rattle.rules.specs.SystemBlock.{keptSysctrl, keptCfgctrl, keptFaultstat};
+ghost use Rattle.rules.specs.Sound.{soundSystem};
 ghost use Rattle.rules.specs.Writes.{withVtable, withSysctrl, withCfgctrl, withFaultstat, withHfaultstat, storedWritten};
+use bools::both;
 use rules::System;
 use rules::SystemRegister;
 
@@ -84,12 +85,6 @@ pub fn stored_written(system: System, register: SystemRegister, v: u32) -> Syste
         SystemRegister::Faultaddr => system,
         SystemRegister::Swtrig => system,
     }
-}
-
-fn both(a: bool, b: bool) -> bool
-    ensures { λ r. ⌜ r ≡ a && b ⌝ }
-{
-    if a { b } else { false }
 }
 
 // Each register holds only its kept bits.

@@ -1,17 +1,13 @@
--- The timer's laws: the soundness test is the record of facts, every operation keeps a timer sound, and 01's starred bench case.
-use Prim.Native.Nat.{ℕ, zero, suc, _^_}
+-- The timer's laws: the soundness test is the record of facts, and every operation keeps a timer sound.
+use Prim.Native.Nat.{ℕ, _^_}
 use mathlib.Core.Path.{_≡_, refl}
 use mathlib.Core.Bool.{Bool, true, false, _&&_}
-use mathlib.Core.List.{List, [], _∷_}
 use native.Mathlib.Omega.{arith}
 use lib.Dec.{T, ltb, eqb, ltb→lt}
 use borrow.Author.Tests.{lt-ltb}
+use Rattle.bools.specs.Tests.{both}
 use Rattle.systick.specs.declared.Timer.{Timer}
 use Rattle.systick.specs.Timer.{freshTimer, enabled, tickOf, readControl, writeControl, writeReload, writeCurrent, soundTimer, SoundTimer}
-
-both : (a b : Bool) → T (a && b) → T a × T b
-both true b h = (tt, h)
-both false b h = absurd h
 
 pub of-sound-timer : (t : Timer) → T (soundTimer t) → SoundTimer t
 unfolding soundTimer
@@ -52,13 +48,3 @@ write-reload-sound value s = record { control = s .control; reload = omega arith
 pub write-current-sound : {t : Timer} (value : ℕ) → SoundTimer t → SoundTimer (writeCurrent value t)
 unfolding writeCurrent
 write-current-sound value s = record { control = s .control; reload = s .reload; current = omega arith }
-
--- the current values after each of n ticks
-unfoldable pub ticks : ℕ → Timer → List ℕ
-ticks zero t = []
-ticks (suc n) t = tickOf t .timer .current ∷ ticks n (tickOf t .timer)
-
--- "*Reload 3, current 0: ticks give 3, 2, 1, 0, 3."
-pub ticks-from-three : ticks 5 (record { control = 1; reload = 3; current = 0; count = false }) ≡ 3 ∷ 2 ∷ 1 ∷ 0 ∷ 3 ∷ []
-unfolding ticks tickOf
-ticks-from-three = refl

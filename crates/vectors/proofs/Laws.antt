@@ -9,8 +9,9 @@ use lib.ListN.{length, take, drop, getD, length-take, length-drop}
 use lib.Seq.{take-all, take-suc, take-add, getD-drop}
 use Rattle.rules.specs.Chip.{chip55}
 use Rattle.run.specs.declared.Progress.{Progress}
-use Rattle.run.specs.Text.{textOf}
-use Rattle.run.specs.Running.{restOf, Ran}
+use Rattle.text.specs.Text.{textOf}
+use Rattle.run.specs.Progress.{restOf, Ran}
+use Rattle.running.specs.Running as running
 use Rattle.vectors.specs.Agree.{Agree}
 
 module _ {want : List ℕ} {at : ℕ} {text : List ℕ} where
@@ -44,5 +45,5 @@ not-false true e = refl
 not-false false e = sym e
 
 pub judged : {script want : List ℕ} {p : Progress} {at : ℕ} → Judging script want p at → not (p .ended) ≡ false → length want ≤ at → want ≡ textOf chip55 script
-unfolding restOf
+unfolding running.restOf
 judged {script} {want} {p} {at} j e h = rw (not-false (p .ended) e, append-nil, take-all at want h) at (j .told)

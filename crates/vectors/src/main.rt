@@ -5,7 +5,7 @@ ghost use Prim.Native.Nat.{_+_, _^_, _<_, _≤_};
 ghost use lib.ListN.{length};
 ghost use Rattle.io.specs.Counts.{Counts};
 ghost use Rattle.rules.specs.Chip.{chip55};
-ghost use Rattle.run.specs.Text.{textOf};
+ghost use Rattle.text.specs.Text.{textOf};
 ghost use Rattle.vectors.specs.Agree.{Agree};
 use libc::STDOUT_FILENO;
 

@@ -70,7 +70,7 @@ abbrev pub row : Rights → Rights → Row
 row privileged other = record { 0 = privileged; 1 = other }
 
 -- "Rights by AP (26:24), privileged/other, in order 0 to 7: none/none, RW/none, RW/R, RW/RW, none/none (house rule),
--- R/none, R/R, R/R."
+-- R/none, R/R, R/R." The cases of the manual's CheckPermission(), which leaves AP 4 unpredictable.
 unfoldable pub rightsByAp : List Row
 rightsByAp =
     row NONE NONE
@@ -90,7 +90,7 @@ rightsOf attributes privileged =
     (getD rightsByAp (attributes / 2 ^ 24 % 2 ^ 3) (row NONE NONE) .0)
     (getD rightsByAp (attributes / 2 ^ 24 % 2 ^ 3) (row NONE NONE) .1)
 
--- What a region with these attributes allows. "A fetch needs the right to read and bit 28 clear".
+-- What a region with these attributes allows: the manual's CheckPermission(). "A fetch needs the right to read and bit 28 clear".
 unfoldable pub allows : ℕ → Access → Bool → Bool
 allows attributes Read privileged = rightsOf attributes privileged .read
 allows attributes Write privileged = rightsOf attributes privileged .write
@@ -121,7 +121,7 @@ systemFetch Read address = false
 systemFetch Write address = false
 systemFetch Fetch address = leb 0xE0000000 address
 
--- Whether the guard lets an access through.
+-- Whether the guard lets an access through: the manual's ValidateAddress().
 unfoldable pub permits : Mpu → Access → ℕ → Bool → Bool → Bool
 permits g access address privileged negative =
     cond (systemFetch access address) false

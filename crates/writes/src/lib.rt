@@ -1,22 +1,19 @@
 // Register writes on lent lists, for every chip.
 ghost use mathlib.Core.Path.{_≡_};
-ghost use mathlib.Core.Bool.{Bool, _&&_, _||_};
-ghost use mathlib.Core.List.{List};
-ghost use Prim.Native.Nat.{ℕ, _<_, _≤_};
-ghost use lib.Dec.{eqb};
-ghost use Rattle.bits.specs.Words.{bitAt};
+ghost use Rattle.rules.specs.Model.{Model, withPending, withActive, withEnabled, withLevel, withPriority, withCore, withSystem};
+ghost use Rattle.rules.specs.Lent.{answer};
+ghost use mathlib.Core.Bool.{_||_};
+ghost use Prim.Native.Nat.{_<_};
 ghost use Rattle.rules.specs.declared.Chip.{Chip};
-ghost use Rattle.rules.specs.declared.Core.{Core};
 ghost use Rattle.rules.specs.declared.Register.the-variants.{Timer, Guard};
 ghost use Rattle.rules.specs.declared.SystemRegister.the-variants.{Apint};
-ghost use Rattle.rules.specs.Lent.{modelOf, answerOf, isPrivileged};
-ghost use Rattle.rules.specs.Model.{withSystem};
+ghost use Rattle.rules.specs.Priorities.{privileged};
 ghost use Rattle.rules.specs.Writes.{bankWritten, storedWritten, systemWritten, wordWritten, byteWritten};
-ghost use Rattle.rules.specs.Registers.{writeCall};
+ghost use Rattle.rules.specs.Registers.{freeWrite, writeCall};
 use mpu::MpuRegister;
-use outcome::accepted;
-use outcome::is_privileged;
-use outcome::refused;
+use parts::accepted;
+use parts::is_privileged;
+use parts::refused;
 use rules::Bank;
 use rules::Chip;
 use rules::Core;
@@ -34,7 +31,7 @@ fn bank_written(
     enabled: &mut [bool],
     level: &[bool],
 )
-    ensures { λ _. ⌜ ((priority nest : List ℕ) (core : Core) → modelOf (now (pending .exit)) (now (active .entry)) (now (enabled .exit)) (now (level .entry)) priority nest core ≡ bankWritten bank n v (modelOf (now (pending .entry)) (now (active .entry)) (now (enabled .entry)) (now (level .entry)) priority nest core)) ⌝ }
+    ensures { λ _. ⌜ ((m : Model) → withLevel (now (level .entry)) (withEnabled (now (enabled .exit)) (withActive (now (active .entry)) (withPending (now (pending .exit)) m))) ≡ bankWritten bank n v (withLevel (now (level .entry)) (withEnabled (now (enabled .entry)) (withActive (now (active .entry)) (withPending (now (pending .entry)) m))))) ⌝ }
 {
     match bank {
         Bank::EnableSet => flag_words::set_flags(enabled, n, v),
@@ -46,14 +43,14 @@ fn bank_written(
 }
 
 fn apint_written(mut core: Core, v: u32) -> Core
-    ensures { λ r. ⌜ ((chip : Chip) (pending active enabled level : List Bool) (priority nest : List ℕ) → modelOf pending active enabled level priority nest r ≡ systemWritten chip Apint v (modelOf pending active enabled level priority nest core)) ⌝ }
+    ensures { λ r. ⌜ ((chip : Chip) (m : Model) → withCore r m ≡ systemWritten chip Apint v (withCore core m)) ⌝ }
 {
     core.group = control::apint_written(v, core.group);
     core
 }
 
 fn stored_written(mut core: Core, register: SystemRegister, v: u32) -> Core
-    ensures { λ r. ⌜ ((pending active enabled level : List Bool) (priority nest : List ℕ) → modelOf pending active enabled level priority nest r ≡ withSystem (storedWritten register v (core .system)) (modelOf pending active enabled level priority nest core)) ⌝ }
+    ensures { λ r. ⌜ ((m : Model) → withCore r m ≡ withSystem (storedWritten register v (core .system)) (withCore core m)) ⌝ }
 {
     let system = core.system;
     let next = system::stored::stored_written(system, register, v);
@@ -69,7 +66,7 @@ fn system_written(
     enabled: &mut [bool],
     core: Core,
 ) -> Core
-    ensures { λ r. ⌜ ((active level : List Bool) (priority nest : List ℕ) → modelOf (now (pending .exit)) active (now (enabled .exit)) level priority nest r ≡ systemWritten chip register v (modelOf (now (pending .entry)) active (now (enabled .entry)) level priority nest core)) ⌝ }
+    ensures { λ r. ⌜ ((m : Model) → withCore r (withEnabled (now (enabled .exit)) (withPending (now (pending .exit)) m)) ≡ systemWritten chip register v (withCore core (withEnabled (now (enabled .entry)) (withPending (now (pending .entry)) m)))) ⌝ }
 {
     match register {
         SystemRegister::Intctrl => {
@@ -98,7 +95,7 @@ fn system_written(
 }
 
 fn timer_written(mut core: Core, register: TimerRegister, v: u32) -> Core
-    ensures { λ r. ⌜ ((chip : Chip) (pending active enabled level : List Bool) (priority nest : List ℕ) → modelOf pending active enabled level priority nest r ≡ wordWritten chip (Timer register) v (modelOf pending active enabled level priority nest core)) ⌝ }
+    ensures { λ r. ⌜ ((chip : Chip) (m : Model) → withCore r m ≡ wordWritten chip (Timer register) v (withCore core m)) ⌝ }
 {
     let timer = core.timer;
     let next = system::timer::timer_written(timer, register, v);
@@ -107,7 +104,7 @@ fn timer_written(mut core: Core, register: TimerRegister, v: u32) -> Core
 }
 
 fn guard_written(mut core: Core, register: MpuRegister, v: u32) -> Core
-    ensures { λ r. ⌜ ((chip : Chip) (pending active enabled level : List Bool) (priority nest : List ℕ) → modelOf pending active enabled level priority nest r ≡ wordWritten chip (Guard register) v (modelOf pending active enabled level priority nest core)) ⌝ }
+    ensures { λ r. ⌜ ((chip : Chip) (m : Model) → withCore r m ≡ wordWritten chip (Guard register) v (withCore core m)) ⌝ }
 {
     let guard = core.guard;
     let next = guard.write(register, v);
@@ -115,7 +112,6 @@ fn guard_written(mut core: Core, register: MpuRegister, v: u32) -> Core
     core
 }
 
-// A chip keeps 3 to 8 bits, here and below.
 fn word_written(
     chip: Chip,
     register: Register,
@@ -127,8 +123,7 @@ fn word_written(
     priority: &mut [u8],
     core: Core,
 ) -> Core
-    requires { ⌜ chip .bits ≤ 8 ⌝ }
-    ensures { λ r. ⌜ ((nest : List ℕ) → modelOf (now (pending .exit)) (now (active .entry)) (now (enabled .exit)) (now (level .entry)) (now (priority .exit)) nest r ≡ wordWritten chip register v (modelOf (now (pending .entry)) (now (active .entry)) (now (enabled .entry)) (now (level .entry)) (now (priority .entry)) nest core)) ⌝ }
+    ensures { λ r. ⌜ ((m : Model) → withCore r (withPriority (now (priority .exit)) (withLevel (now (level .entry)) (withEnabled (now (enabled .exit)) (withActive (now (active .entry)) (withPending (now (pending .exit)) m))))) ≡ wordWritten chip register v (withCore core (withPriority (now (priority .entry)) (withLevel (now (level .entry)) (withEnabled (now (enabled .entry)) (withActive (now (active .entry)) (withPending (now (pending .entry)) m))))))) ⌝ }
 {
     match register {
         Register::Missing => core,
@@ -147,8 +142,8 @@ fn word_written(
 }
 
 fn byte_written(chip: Chip, register: Register, lane: u32, v: u32, priority: &mut [u8])
-    requires { ⌜ (chip .bits ≤ 8) × (lane < 4) ⌝ }
-    ensures { λ _. ⌜ ((pending active enabled level : List Bool) (nest : List ℕ) (core : Core) → modelOf pending active enabled level (now (priority .exit)) nest core ≡ byteWritten chip register lane v (modelOf pending active enabled level (now (priority .entry)) nest core)) ⌝ }
+    requires { ⌜ lane < 4 ⌝ }
+    ensures { λ _. ⌜ ((m : Model) → withPriority (now (priority .exit)) m ≡ byteWritten chip register lane v (withPriority (now (priority .entry)) m)) ⌝ }
 {
     match register {
         Register::Missing => {}
@@ -162,7 +157,7 @@ fn byte_written(chip: Chip, register: Register, lane: u32, v: u32, priority: &mu
 
 // A word write to SWTRIG needs no privilege where CFGCTRL bit 1 is set.
 fn free_write(core: Core, width: u32, address: u32) -> bool
-    ensures { λ r. ⌜ r ≡ (eqb width 4 && eqb address 0xE000EF00 && bitAt 1 (core .system .cfgctrl)) ⌝ }
+    ensures { λ r. ⌜ r ≡ freeWrite core width address ⌝ }
 {
     if width == 4 {
         if address == 0xe000ef00 {
@@ -175,7 +170,7 @@ fn free_write(core: Core, width: u32, address: u32) -> bool
 
 // Whether the privilege suffices for a write.
 fn may_write(core: Core, width: u32, address: u32) -> bool
-    ensures { λ r. ⌜ r ≡ (isPrivileged core || (eqb width 4 && eqb address 0xE000EF00 && bitAt 1 (core .system .cfgctrl))) ⌝ }
+    ensures { λ r. ⌜ r ≡ (privileged core || freeWrite core width address) ⌝ }
 {
     if is_privileged(core) {
         return true;
@@ -195,8 +190,7 @@ pub fn write(
     address: u32,
     value: u32,
 ) -> Outcome
-    requires { ⌜ chip .bits ≤ 8 ⌝ }
-    ensures { λ r. ⌜ ((nest : List ℕ) → answerOf r (now (pending .exit)) (now (active .entry)) (now (enabled .exit)) (now (level .entry)) (now (priority .exit)) nest ≡ writeCall chip (modelOf (now (pending .entry)) (now (active .entry)) (now (enabled .entry)) (now (level .entry)) (now (priority .entry)) nest core) width address value) ⌝ }
+    ensures { λ r. ⌜ ((m : Model) → answer r (withPriority (now (priority .exit)) (withLevel (now (level .entry)) (withEnabled (now (enabled .exit)) (withActive (now (active .entry)) (withPending (now (pending .exit)) m))))) ≡ writeCall chip (withCore core (withPriority (now (priority .entry)) (withLevel (now (level .entry)) (withEnabled (now (enabled .entry)) (withActive (now (active .entry)) (withPending (now (pending .entry)) m)))))) width address value) ⌝ }
 {
     let register = map::register_at(chip, address - address % 4);
     let allowed = may_write(core, width, address);

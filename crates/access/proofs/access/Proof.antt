@@ -2,7 +2,7 @@
 use mathlib.Core.Path.{_∙_, sym}
 use mir.Facts.{toZ-ofZ}
 use borrow.Author.Tests.{lt-ltb, le-ltb}
-use Rattle.rules.specs.Step.{accessCall}
+use Rattle.rules.specs.Access.{accessAt}
 use borrow.Author.Needs.{needs}
 use Rattle.access.proofs.access.Statement.{statement}
 use Rattle.access.proofs.access.Tie as tie
@@ -11,8 +11,8 @@ refused-requires : tie.Need-refused-requires
 refused-requires c κs = search needs
 
 returns : tie.Need-returns
-unfolding accessCall
-returns c = λ pending active enabled level priority nest e. simp (c .refused .ensures, lt-ltb _ _ (c .before .if1 .taken))
+unfolding accessAt
+returns c = λ m. simp (c .refused .ensures, lt-ltb _ _ (c .before .if1 .taken))
 
 fits-access-requires : tie.Need-fits-access-requires
 fits-access-requires c κs = search needs
@@ -33,22 +33,22 @@ accepted-requires : tie.Need-accepted-requires
 accepted-requires c κs = search needs
 
 returns-2 : tie.Need-returns-2
-unfolding accessCall
-returns-2 c = λ pending active enabled level priority nest e. simp (c .accepted .ensures, c .before .verdict .ensures, c .before .before .before .purpose-of .ensures, c .before .before .is-privileged .ensures, toZ-ofZ (c .before .before .before .before .before .before .before .before .before .before .fits .limit), sym e, le-ltb _ _ (c .before .before .before .before .before .before .before .before .before .if1 .left), sym (c .before .before .before .before .before .before .before .before .fits-access .ensures) ∙ c .before .before .before .before .before .before .before .if2 .taken, sym (c .before .before .before .before .before .before .is-aligned .ensures) ∙ c .before .before .before .before .before .if3 .taken)
+unfolding accessAt
+returns-2 c = λ m. simp (c .accepted .ensures, c .before .verdict .ensures, c .before .before .before .purpose-of .ensures, c .before .before .is-privileged .ensures, toZ-ofZ (c .before .before .before .before .before .before .before .before .before .before .fits .limit), le-ltb _ _ (c .before .before .before .before .before .before .before .before .before .if1 .left), sym (c .before .before .before .before .before .before .before .before .fits-access .ensures) ∙ c .before .before .before .before .before .before .before .if2 .taken, sym (c .before .before .before .before .before .before .is-aligned .ensures) ∙ c .before .before .before .before .before .if3 .taken)
 
 refused-requires-2 : tie.Need-refused-requires-2
 refused-requires-2 c κs = search needs
 
 returns-3 : tie.Need-returns-3
-unfolding accessCall
-returns-3 c = λ pending active enabled level priority nest e. simp (c .refused2 .ensures, le-ltb _ _ (c .before .before .before .before .before .if1 .left), sym (c .before .before .before .before .fits-access .ensures) ∙ c .before .before .before .if2 .taken, sym (c .before .before .is-aligned .ensures) ∙ c .before .if3 .left)
+unfolding accessAt
+returns-3 c = λ m. simp (c .refused2 .ensures, le-ltb _ _ (c .before .before .before .before .before .if1 .left), sym (c .before .before .before .before .fits-access .ensures) ∙ c .before .before .before .if2 .taken, sym (c .before .before .is-aligned .ensures) ∙ c .before .if3 .left)
 
 refused-requires-3 : tie.Need-refused-requires-3
 refused-requires-3 c κs = search needs
 
 returns-4 : tie.Need-returns-4
-unfolding accessCall
-returns-4 c = λ pending active enabled level priority nest e. simp (c .refused3 .ensures, le-ltb _ _ (c .before .before .before .if1 .left), sym (c .before .before .fits-access .ensures) ∙ c .before .if2 .left)
+unfolding accessAt
+returns-4 c = λ m. simp (c .refused3 .ensures, le-ltb _ _ (c .before .before .before .if1 .left), sym (c .before .before .fits-access .ensures) ∙ c .before .if2 .left)
 
 pub access-spec : {M : Type 1} → statement M
 access-spec =

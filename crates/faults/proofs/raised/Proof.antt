@@ -6,6 +6,19 @@ use borrow.Author.Needs.{needs}
 use Rattle.faults.proofs.raised.Statement.{statement}
 use Rattle.faults.proofs.raised.Tie as tie
 
+-- an earlier place of the function, from a later one
+abbrev at-escalates : tie.After-accepted2 → tie.After-escalates
+at-escalates c = c .before .before .before .before .before .before
+
+abbrev at-escalates-2 : tie.After-accepted → tie.After-escalates
+at-escalates-2 c = c .before .before .before .before .before .before .before
+
+abbrev at-start : tie.After-accepted2 → tie.Start
+at-start c = (at-escalates c) .before .before .before .before
+
+abbrev at-start-2 : tie.After-accepted → tie.Start
+at-start-2 c = (at-escalates-2 c) .before .before .before .before
+
 escalates-requires : tie.Need-escalates-requires
 escalates-requires c κs = search needs
 
@@ -23,7 +36,7 @@ same-length c = search needs
 
 returns : tie.Need-returns
 unfolding raised escalates
-returns c = λ active level nest e. simp (c .accepted .ensures, c .before .before .before .store-flag .ensures, c .before .before .before .before .before .forced .ensures, sym e, simp (toZ-ofZ (c .before .before .before .before .before .before .before .before .before .before .before .fits .limit)) at (sym (c .before .before .before .before .before .before .before .escalates .ensures) ∙ c .before .before .before .before .before .before .if1 .taken))
+returns c = λ m. simp (c .accepted .ensures, c .before .before .before .store-flag .ensures, c .before .before .before .before .before .forced .ensures, simp (toZ-ofZ ((at-start-2 c) .fits .limit)) at (sym ((at-escalates-2 c) .escalates .ensures) ∙ c .before .before .before .before .before .before .if1 .taken))
 
 store-flag-requires-2 : tie.Need-store-flag-requires-2
 store-flag-requires-2 c κs = search needs
@@ -39,7 +52,7 @@ same-length-2 c = search needs
 
 returns-2 : tie.Need-returns-2
 unfolding raised escalates
-returns-2 c = λ active level nest e. simp (c .accepted2 .ensures, c .before .before .before .store-flag2 .ensures, sym e, simp (toZ-ofZ (c .before .before .before .before .before .before .before .before .before .before .fits .limit)) at (sym (c .before .before .before .before .before .before .escalates .ensures) ∙ c .before .before .before .before .before .if1 .left))
+returns-2 c = λ m. simp (c .accepted2 .ensures, c .before .before .before .store-flag2 .ensures, simp (toZ-ofZ ((at-start c) .fits .limit)) at (sym ((at-escalates c) .escalates .ensures) ∙ c .before .before .before .before .before .if1 .left))
 
 pub raised-spec : {M : Type 1} → statement M
 raised-spec =

@@ -5,6 +5,13 @@ use borrow.Author.Needs.{needs}
 use Rattle.lines.proofs.set_level.Statement.{statement}
 use Rattle.lines.proofs.set_level.Tie as tie
 
+-- an earlier place of the function, from a later one
+abbrev at-then1 : tie.After-slice-known3 → tie.Then1
+at-then1 c = c .before .before .before .before .before .before .before
+
+abbrev at-then1-2 : tie.After-slice-known5 → tie.Then1
+at-then1-2 c = c .before .before .before .before .before .before .before .before .before .before .before
+
 flag-at-requires : tie.Need-flag-at-requires
 flag-at-requires c κs = search needs
 
@@ -16,7 +23,7 @@ same-length c = search needs
 
 returns : tie.Need-returns
 unfolding levelled
-returns c = λ active enabled priority nest core. simp (c .before .before .store-flag .ensures, c .before .before .before .before .before .before .before .if1 .taken, sym (c .before .before .before .before .before .flag-at .ensures) ∙ c .before .before .before .before .if2 .taken)
+returns c = λ m. simp (c .before .before .store-flag .ensures, (at-then1 c) .if1 .taken, sym (c .before .before .before .before .before .flag-at .ensures) ∙ c .before .before .before .before .if2 .taken)
 
 store-flag-requires-2 : tie.Need-store-flag-requires-2
 store-flag-requires-2 c κs = search needs
@@ -32,7 +39,7 @@ same-length-3 c = search needs
 
 returns-2 : tie.Need-returns-2
 unfolding levelled
-returns-2 c = λ active enabled priority nest core. simp (c .before .before .store-flag3 .ensures, c .before .before .before .before .before .before .store-flag2 .ensures, c .before .before .before .before .before .before .before .before .before .before .before .if1 .taken, sym (c .before .before .before .before .before .before .before .before .before .flag-at .ensures) ∙ c .before .before .before .before .before .before .before .before .if2 .left)
+returns-2 c = λ m. simp (c .before .before .store-flag3 .ensures, c .before .before .before .before .before .before .store-flag2 .ensures, (at-then1-2 c) .if1 .taken, sym (c .before .before .before .before .before .before .before .before .before .flag-at .ensures) ∙ c .before .before .before .before .before .before .before .before .if2 .left)
 
 store-flag-requires-4 : tie.Need-store-flag-requires-4
 store-flag-requires-4 c κs = search needs
@@ -42,7 +49,7 @@ same-length-4 c = search needs
 
 returns-3 : tie.Need-returns-3
 unfolding levelled
-returns-3 c = λ active enabled priority nest core. simp (c .before .before .store-flag4 .ensures, c .before .before .before .before .if1 .left)
+returns-3 c = λ m. simp (c .before .before .store-flag4 .ensures, c .before .before .before .before .if1 .left)
 
 pub set-level-spec : {M : Type 1} → statement M
 set-level-spec =

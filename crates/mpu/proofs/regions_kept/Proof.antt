@@ -5,19 +5,20 @@ use native.Mathlib.Nat.{le-antisymm}
 use native.Mathlib.Numerals.{add-one}
 use native.Mathlib.Omega.{arith}
 use lib.ListN.{length}
-use Rattle.mpu.specs.Soundness.{allBelow, regionKept}
+use Rattle.bools.specs.Every.{every}
+use Rattle.mpu.specs.Soundness.{regionKept}
 use borrow.Author.Needs.{needs}
 use Rattle.mpu.proofs.regions_kept.Statement.{statement}
 use Rattle.mpu.proofs.regions_kept.Tie as tie
 
 abbrev Inv-loop : tie.InvT-loop
-Inv-loop bases attributes ok₀ i₀ ok i = (i ≤ length attributes) × (ok ≡ allBelow (regionKept bases attributes) i)
+Inv-loop bases attributes ok₀ i₀ ok i = (i ≤ length attributes) × (ok ≡ every (regionKept bases attributes) i)
 
 abbrev μ-loop : tie.MeasureT-loop
 μ-loop bases attributes ok₀ i₀ ok i = length attributes - i
 
 loop-holds : tie.Need-loop-holds Inv-loop μ-loop
-unfolding allBelow
+unfolding every
 loop-holds c = (omega arith, refl)
 
 mul-kept-base : tie.Need-mul-kept-base Inv-loop μ-loop
@@ -63,11 +64,11 @@ loop-less : tie.Need-loop-less Inv-loop μ-loop
 loop-less c = omega arith
 
 loop-again : tie.Need-loop-again Inv-loop μ-loop
-unfolding allBelow regionKept
+unfolding every regionKept
 loop-again c = (omega arith, c .both2 .ensures ∙ simp (add-one, c .before .before .before .before .before .before .before .before .before .loop .inv .1, c .before .both .ensures, c .before .before .before .kept-attributes .ensures, c .before .before .before .before .before .before .kept-base .ensures))
 
 returns : tie.Need-returns Inv-loop μ-loop
-returns c = c .before .loop .inv .1 ∙ ap (allBelow _) (le-antisymm (c .before .loop .inv .0) (c .loop-test .left))
+returns c = c .before .loop .inv .1 ∙ ap (every _) (le-antisymm (c .before .loop .inv .0) (c .loop-test .left))
 
 pub regions-kept-spec : {M : Type 1} → statement M
 regions-kept-spec =

@@ -2,6 +2,7 @@
 use mathlib.Core.Path.{sym}
 use borrow.Author.Tests.{eq-eqb, ne-eqb}
 use Rattle.rules.specs.Registers.{readCall}
+use Rattle.rules.specs.Model.{withActive, withEnabled, withNest, withPending, withPriority}
 use borrow.Author.Needs.{needs}
 use Rattle.reads.proofs.read.Statement.{statement}
 use Rattle.reads.proofs.read.Tie as tie
@@ -33,15 +34,16 @@ accepted-requires c κs = search needs
 returns : tie.Need-returns
 unfolding readCall
 returns c =
-    let s = c .before .before .before .before .before .before .before .before .before .before .before .before .before in
-    λ level. simp (c .accepted .ensures, c .before .before .after-read .ensures (s .args .pending .now) (s .args .active .now) (s .args .enabled .now) level (s .args .priority .now) (s .args .nest .now), c .before .lane-of .ensures, c .before .before .before .value-of .ensures level, c .before .before .before .before .before .before .before .register-at .ensures, sym (simp (c .before .before .before .before .before .before .before .register-at .ensures, c .before .before .before .before .before .before .is-privileged .ensures) at (c .before .before .before .before .before .access-refusal .ensures)), eq-eqb _ _ (c .before .before .before .before .if1 .taken))
+    let r = c .before .before .before .before .before .before .before in
+    let s = r .before .before .before .before .before .before in
+    λ m. simp (c .accepted .ensures, c .before .before .after-read .ensures (withNest (s .args .nest .now) (withPriority (s .args .priority .now) (withEnabled (s .args .enabled .now) (withActive (s .args .active .now) (withPending (s .args .pending .now) m))))), c .before .lane-of .ensures, c .before .before .before .value-of .ensures m, r .register-at .ensures, sym (simp (r .register-at .ensures, c .before .before .before .before .before .before .is-privileged .ensures) at (c .before .before .before .before .before .access-refusal .ensures)), eq-eqb _ _ (c .before .before .before .before .if1 .taken))
 
 refused-requires : tie.Need-refused-requires
 refused-requires c κs = search needs
 
 returns-2 : tie.Need-returns-2
 unfolding readCall
-returns-2 c = λ level. simp (c .refused .ensures, sym (simp (c .before .before .before .before .register-at .ensures, c .before .before .before .is-privileged .ensures) at (c .before .before .access-refusal .ensures)), ne-eqb _ _ (c .before .if1 .left))
+returns-2 c = λ m. simp (c .refused .ensures, sym (simp (c .before .before .before .before .register-at .ensures, c .before .before .before .is-privileged .ensures) at (c .before .before .access-refusal .ensures)), ne-eqb _ _ (c .before .if1 .left))
 
 pub read-spec : {M : Type 1} → statement M
 read-spec =

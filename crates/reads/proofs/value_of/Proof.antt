@@ -1,9 +1,14 @@
 -- One clause a kind of register.
 use mathlib.Core.Path.{_∙_}
 use Rattle.rules.specs.Reads.{valueOf}
+use Rattle.rules.specs.Model.{withCore, withNest, withPriority}
 use borrow.Author.Needs.{needs}
 use Rattle.reads.proofs.value_of.Statement.{statement}
 use Rattle.reads.proofs.value_of.Tie as tie
+
+-- an earlier place of the function, from a later one
+abbrev at-start : tie.After-guard → tie.Start
+at-start c = c .before .before .before .before .before .before .before
 
 enum-told : tie.Need-enum-told
 enum-told c = search needs
@@ -40,29 +45,29 @@ read-requires c κs = search needs
 
 returns : tie.Need-returns
 unfolding valueOf
-returns c = λ level. simp (c .enum-told .given .1)
+returns c = λ m. simp (c .enum-told .given .1)
 
 returns-2 : tie.Need-returns-2
 unfolding valueOf
-returns-2 c = λ level. c .timer-value .ensures ∙ simp (c .before .before .register .given .1)
+returns-2 c = λ m. c .timer-value .ensures ∙ simp (c .before .before .register .given .1)
 
 returns-3 : tie.Need-returns-3
 unfolding valueOf
 returns-3 c =
-    let s = c .before .before .before .before .before .before .before .before .before .before .before in
-    λ level. c .bank-value .ensures level (s .args .priority .now) (s .args .nest .now) (s .args .core) ∙ simp (c .before .before .register2 .given .1)
+    let s = at-start (c .before .before .before .before) in
+    λ m. c .bank-value .ensures (withCore (s .args .core) (withNest (s .args .nest .now) (withPriority (s .args .priority .now) m))) ∙ simp (c .before .before .register2 .given .1)
 
 returns-4 : tie.Need-returns-4
 unfolding valueOf
-returns-4 c = λ level. c .bytes-value .ensures ∙ simp (c .before .before .register3 .given .1)
+returns-4 c = λ m. c .bytes-value .ensures ∙ simp (c .before .before .register3 .given .1)
 
 returns-5 : tie.Need-returns-5
 unfolding valueOf
-returns-5 c = λ level. c .system-value .ensures level (c .before .before .before .before .before .before .before .before .before .before .before .args .priority .now) ∙ simp (c .before .before .register4 .given .1)
+returns-5 c = λ m. c .system-value .ensures (withPriority ((at-start (c .before .before .before .before)) .args .priority .now) m) ∙ simp (c .before .before .register4 .given .1)
 
 returns-6 : tie.Need-returns-6
 unfolding valueOf
-returns-6 c = λ level. c .read .ensures ∙ simp (c .before .before .register5 .given .1)
+returns-6 c = λ m. c .read .ensures ∙ simp (c .before .before .register5 .given .1)
 
 pub value-of-spec : {M : Type 1} → statement M
 value-of-spec =

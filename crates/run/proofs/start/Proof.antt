@@ -1,10 +1,10 @@
 -- The fresh state is sound, and the script from offset 0 on is the whole script.
 use native.Mathlib.Omega.{arith}
 use Rattle.rules.specs.Chip.{chip55}
-use Rattle.rules.proofs.Steps.{sound-fresh}
+use Rattle.demand3.proofs.Steps.{sound-fresh}
 use Rattle.script.specs.Script.{scriptOf}
-use Rattle.run.specs.Text.{textOf}
-use Rattle.run.specs.Running.{scriptAt, restText, restOf}
+use Rattle.text.specs.Text.{textOf}
+use Rattle.running.specs.Running.{scriptAt, restText, restOf}
 use borrow.Author.Needs.{needs}
 use Rattle.run.proofs.start.Statement.{statement}
 use Rattle.run.proofs.start.Tie as tie

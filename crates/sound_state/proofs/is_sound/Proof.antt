@@ -8,46 +8,59 @@ use borrow.Author.Needs.{needs}
 use Rattle.sound_state.proofs.is_sound.Statement.{statement}
 use Rattle.sound_state.proofs.is_sound.Tie as tie
 
+-- an earlier place of the function, from a later one
+abbrev at-else1 : tie.After-sound-nest → tie.Else1
+at-else1 c = c .before .before .before .before .before
+
+abbrev at-is-sized : tie.After-sound-nest → tie.After-is-sized
+at-is-sized c = (at-else1 c) .before
+
+abbrev at-start : tie.After-is-sized → tie.Start
+at-start c = c .before .before .before .before .before .before .before
+
+abbrev at-start-2 : tie.After-sound-nest → tie.Start
+at-start-2 c = at-start (c .before .before .before .before .before .before)
+
 is-sized-requires : tie.Need-is-sized-requires
 is-sized-requires c κs = search needs
 
 returns : tie.Need-returns
 unfolding isSound
-returns c = simp (sym (c .before .is-sized .ensures (c .before .before .before .before .before .before .before .before .args .core)) ∙ not-true _ (c .if1 .taken))
+returns c = simp (sym (c .before .is-sized .ensures ((at-start (c .before)) .args .core)) ∙ not-true _ (c .if1 .taken))
 
 sound-flags-requires : tie.Need-sound-flags-requires
 sound-flags-requires c κs =
-    let s = c .before .before .before .before .before .before .before .before in
+    let s = at-start (c .before) in
     let z = (sized (s .args .chip) (modelOf (s .args .pending .now) (s .args .active .now) (s .args .enabled .now) (s .args .level .now) (s .args .priority .now) (s .args .nest .now) (s .args .core)) (sym (c .before .is-sized .ensures (s .args .core)) ∙ not-false _ (c .if1 .left))) in (z .pending, z .active, z .enabled, z .level)
 
 returns-2 : tie.Need-returns-2
 unfolding isSound
-returns-2 c = simp (sym (c .before .before .before .is-sized .ensures (c .before .before .before .before .before .before .before .before .before .before .args .core)) ∙ not-false _ (c .before .before .if1 .left), sym (c .before .sound-flags .ensures) ∙ not-true _ (c .if2 .taken))
+returns-2 c = simp (sym (c .before .before .before .is-sized .ensures ((at-start (c .before .before .before)) .args .core)) ∙ not-false _ (c .before .before .if1 .left), sym (c .before .sound-flags .ensures) ∙ not-true _ (c .if2 .taken))
 
 bytes-sound-requires : tie.Need-bytes-sound-requires
 bytes-sound-requires c κs =
-    let s = c .before .before .before .before .before .before .before .before .before .before in
-    ((sized (s .args .chip) (modelOf (s .args .pending .now) (s .args .active .now) (s .args .enabled .now) (s .args .level .now) (s .args .priority .now) (s .args .nest .now) (s .args .core)) (sym (c .before .before .before .is-sized .ensures (s .args .core)) ∙ not-false _ (c .before .before .if1 .left))) .priority, s .pre)
+    let s = at-start (c .before .before .before) in
+    (sized (s .args .chip) (modelOf (s .args .pending .now) (s .args .active .now) (s .args .enabled .now) (s .args .level .now) (s .args .priority .now) (s .args .nest .now) (s .args .core)) (sym (c .before .before .before .is-sized .ensures (s .args .core)) ∙ not-false _ (c .before .before .if1 .left)) .priority)
 
 returns-3 : tie.Need-returns-3
 unfolding isSound
-returns-3 c = simp (sym (c .before .before .before .before .before .is-sized .ensures (c .before .before .before .before .before .before .before .before .before .before .before .before .args .core)) ∙ not-false _ (c .before .before .before .before .if1 .left), sym (c .before .before .before .sound-flags .ensures) ∙ not-false _ (c .before .before .if2 .left), sym (c .before .bytes-sound .ensures) ∙ not-true _ (c .if3 .taken))
+returns-3 c = simp (sym (c .before .before .before .before .before .is-sized .ensures ((at-start (c .before .before .before .before .before)) .args .core)) ∙ not-false _ (c .before .before .before .before .if1 .left), sym (c .before .before .before .sound-flags .ensures) ∙ not-false _ (c .before .before .if2 .left), sym (c .before .bytes-sound .ensures) ∙ not-true _ (c .if3 .taken))
 
 sound-nest-requires : tie.Need-sound-nest-requires
 sound-nest-requires c κs =
-    let s = c .before .before .before .before .before .before .before .before .before .before .before .before in
+    let s = at-start (c .before .before .before .before .before) in
     let z = (sized (s .args .chip) (modelOf (s .args .pending .now) (s .args .active .now) (s .args .enabled .now) (s .args .level .now) (s .args .priority .now) (s .args .nest .now) (s .args .core)) (sym (c .before .before .before .before .before .is-sized .ensures (s .args .core)) ∙ not-false _ (c .before .before .before .before .if1 .left))) in (z .active, z .nest)
 
 returns-4 : tie.Need-returns-4
 unfolding isSound
-returns-4 c = simp (sym (c .before .before .before .before .before .before .before .is-sized .ensures (c .before .before .before .before .before .before .before .before .before .before .before .before .before .before .args .core)) ∙ not-false _ (c .before .before .before .before .before .before .if1 .left), sym (c .before .before .before .before .before .sound-flags .ensures) ∙ not-false _ (c .before .before .before .before .if2 .left), sym (c .before .before .before .bytes-sound .ensures) ∙ not-false _ (c .before .before .if3 .left), sym (c .before .sound-nest .ensures) ∙ not-true _ (c .if4 .taken))
+returns-4 c = simp (sym ((at-is-sized (c .before)) .is-sized .ensures ((at-start-2 (c .before)) .args .core)) ∙ not-false _ ((at-else1 (c .before)) .if1 .left), sym (c .before .before .before .before .before .sound-flags .ensures) ∙ not-false _ (c .before .before .before .before .if2 .left), sym (c .before .before .before .bytes-sound .ensures) ∙ not-false _ (c .before .before .if3 .left), sym (c .before .sound-nest .ensures) ∙ not-true _ (c .if4 .taken))
 
 is-core-sound-requires : tie.Need-is-core-sound-requires
 is-core-sound-requires c κs = search needs
 
 returns-5 : tie.Need-returns-5
 unfolding isSound
-returns-5 c = c .is-core-sound .ensures ∙ simp (sym (c .before .before .before .before .before .before .before .before .is-sized .ensures (c .before .before .before .before .before .before .before .before .before .before .before .before .before .before .before .args .core)) ∙ not-false _ (c .before .before .before .before .before .before .before .if1 .left), sym (c .before .before .before .before .before .before .sound-flags .ensures) ∙ not-false _ (c .before .before .before .before .before .if2 .left), sym (c .before .before .before .before .bytes-sound .ensures) ∙ not-false _ (c .before .before .before .if3 .left), sym (c .before .before .sound-nest .ensures) ∙ not-false _ (c .before .if4 .left))
+returns-5 c = c .is-core-sound .ensures ∙ simp (sym ((at-is-sized (c .before .before)) .is-sized .ensures ((at-start-2 (c .before .before)) .args .core)) ∙ not-false _ ((at-else1 (c .before .before)) .if1 .left), sym (c .before .before .before .before .before .before .sound-flags .ensures) ∙ not-false _ (c .before .before .before .before .before .if2 .left), sym (c .before .before .before .before .bytes-sound .ensures) ∙ not-false _ (c .before .before .before .if3 .left), sym (c .before .before .sound-nest .ensures) ∙ not-false _ (c .before .if4 .left))
 
 pub is-sound-spec : {M : Type 1} → statement M
 is-sound-spec =

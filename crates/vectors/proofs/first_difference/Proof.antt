@@ -4,8 +4,8 @@ use mathlib.Core.Path.{_≡_, sym}
 use native.Mathlib.Omega.{arith}
 use lib.ListN.{length}
 use lib.Seq.{length-take-le}
-use Rattle.run.specs.Running.{Usable}
-use Rattle.run.proofs.Promise.{left, left-falls}
+use Rattle.run.specs.Progress.{Usable}
+use Rattle.running.proofs.Promise.{left, left-falls}
 use Rattle.vectors.proofs.Laws.{Judging, judging-next, judged}
 use borrow.Author.Needs.{needs}
 use Rattle.vectors.proofs.first_difference.Statement.{statement}

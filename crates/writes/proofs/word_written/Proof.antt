@@ -1,9 +1,17 @@
 -- One clause a kind of register.
 use mathlib.Core.Path.{_∙_}
 use Rattle.rules.specs.Writes.{wordWritten}
+use Rattle.rules.specs.Model.{withActive, withCore, withEnabled, withLevel, withPending, withPriority}
 use borrow.Author.Needs.{needs}
 use Rattle.writes.proofs.word_written.Statement.{statement}
 use Rattle.writes.proofs.word_written.Tie as tie
+
+-- an earlier place of the function, from a later one
+abbrev at-start : tie.After-slice-known3 → tie.Start
+at-start c = c .before .before .before .before .before
+
+abbrev at-start-2 : tie.After-slice-known5 → tie.Start
+at-start-2 c = at-start (c .before .before .before .before .before .before .before .before .before .before)
 
 enum-told : tie.Need-enum-told
 enum-told c = search needs
@@ -40,11 +48,11 @@ guard-written-requires c κs = search needs
 
 returns : tie.Need-returns
 unfolding wordWritten
-returns c = λ nest. simp (c .enum-told .given .1)
+returns c = λ m. simp (c .enum-told .given .1)
 
 returns-2 : tie.Need-returns-2
 unfolding wordWritten
-returns-2 c = λ nest. c .timer-written .ensures (c .before .before .before .before .before .before .before .before .before .args .chip) _ _ _ _ _ nest ∙ simp (c .before .before .register .given .1)
+returns-2 c = λ m. c .timer-written .ensures ((at-start (c .before .before .before .before)) .args .chip) (withPriority _ (withLevel _ (withEnabled _ (withActive _ (withPending _ m))))) ∙ simp (c .before .before .register .given .1)
 
 same-length : tie.Need-same-length
 same-length c = search needs
@@ -54,14 +62,14 @@ same-length-2 c = search needs
 
 returns-3 : tie.Need-returns-3
 unfolding wordWritten
-returns-3 c = λ nest. c .before .before .before .before .bank-written .ensures _ nest (c .before .before .before .before .before .before .before .before .before .before .before .before .before .before .before .args .core) ∙ simp (c .before .before .before .before .before .before .before .before .register2 .given .1)
+returns-3 c = λ m. c .before .before .before .before .bank-written .ensures (withCore ((at-start-2 c) .args .core) (withPriority _ m)) ∙ simp (c .before .before .before .before .before .before .before .before .register2 .given .1)
 
 same-length-3 : tie.Need-same-length-3
 same-length-3 c = search needs
 
 returns-4 : tie.Need-returns-4
 unfolding wordWritten
-returns-4 c = λ nest. simp (c .before .before .put-bytes .ensures, c .before .before .before .before .before .register3 .given .1)
+returns-4 c = λ m. simp (c .before .before .put-bytes .ensures, c .before .before .before .before .before .register3 .given .1)
 
 same-length-4 : tie.Need-same-length-4
 same-length-4 c = search needs
@@ -71,11 +79,11 @@ same-length-5 c = search needs
 
 returns-5 : tie.Need-returns-5
 unfolding wordWritten
-returns-5 c = λ nest. c .before .before .before .before .system-written .ensures _ _ _ nest ∙ simp (c .before .before .before .before .before .before .before .before .register4 .given .1)
+returns-5 c = λ m. c .before .before .before .before .system-written .ensures (withPriority _ (withLevel _ (withActive _ m))) ∙ simp (c .before .before .before .before .before .before .before .before .register4 .given .1)
 
 returns-6 : tie.Need-returns-6
 unfolding wordWritten
-returns-6 c = λ nest. c .guard-written .ensures (c .before .before .before .before .before .before .before .before .before .args .chip) _ _ _ _ _ nest ∙ simp (c .before .before .register5 .given .1)
+returns-6 c = λ m. c .guard-written .ensures ((at-start (c .before .before .before .before)) .args .chip) (withPriority _ (withLevel _ (withEnabled _ (withActive _ (withPending _ m))))) ∙ simp (c .before .before .register5 .given .1)
 
 pub word-written-spec : {M : Type 1} → statement M
 word-written-spec =

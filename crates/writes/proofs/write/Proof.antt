@@ -2,6 +2,7 @@
 use mathlib.Core.Path.{sym}
 use borrow.Author.Tests.{eq-eqb, ne-eqb}
 use Rattle.rules.specs.Registers.{written, writeCall}
+use Rattle.rules.specs.Model.{withActive, withCore, withEnabled, withLevel, withPending}
 use borrow.Author.Needs.{needs}
 use Rattle.writes.proofs.write.Statement.{statement}
 use Rattle.writes.proofs.write.Tie as tie
@@ -35,7 +36,9 @@ same-length-3 c = search needs
 
 returns : tie.Need-returns
 unfolding writeCall written
-returns c = λ nest. simp (c .accepted .ensures, c .before .before .before .before .before .before .before .word-written .ensures nest, c .before .before .before .before .before .before .before .before .before .before .before .before .before .before .before .register-at .ensures, sym (simp (c .before .before .before .before .before .before .before .before .before .before .before .before .before .before .before .register-at .ensures, c .before .before .before .before .before .before .before .before .before .before .before .before .before .before .may-write .ensures, eq-eqb _ _ (c .before .before .before .before .before .before .before .before .before .before .before .if2 .taken)) at (c .before .before .before .before .before .before .before .before .before .before .before .before .before .access-refusal .ensures)), eq-eqb _ _ (c .before .before .before .before .before .before .before .before .before .before .before .before .if1 .taken), eq-eqb _ _ (c .before .before .before .before .before .before .before .before .before .before .before .if2 .taken))
+returns c =
+    let w = c .before .before .before .before .before .before .before .before .before .before .before in
+    λ m. simp (c .accepted .ensures, c .before .before .before .before .before .before .before .word-written .ensures m, w .before .before .before .before .register-at .ensures, sym (simp (w .before .before .before .before .register-at .ensures, w .before .before .before .may-write .ensures, eq-eqb _ _ (w .if2 .taken)) at (w .before .before .access-refusal .ensures)), eq-eqb _ _ (w .before .if1 .taken), eq-eqb _ _ (w .if2 .taken))
 
 byte-written-requires : tie.Need-byte-written-requires
 byte-written-requires c κs = search needs
@@ -49,15 +52,16 @@ same-length-4 c = search needs
 returns-2 : tie.Need-returns-2
 unfolding writeCall written
 returns-2 c =
-    let s = c .before .before .before .before .before .before .before .before .before .before .before .before .before .before .before in
-    λ nest. simp (c .accepted2 .ensures, c .before .before .before .byte-written .ensures (s .args .pending .now) (s .args .active .now) (s .args .enabled .now) (s .args .level .now) nest (s .args .core), c .before .before .before .before .before .before .before .before .before .register-at .ensures, sym (simp (c .before .before .before .before .before .before .before .before .before .register-at .ensures, c .before .before .before .before .before .before .before .before .may-write .ensures, ne-eqb _ _ (c .before .before .before .before .before .if2 .left)) at (c .before .before .before .before .before .before .before .access-refusal .ensures)), eq-eqb _ _ (c .before .before .before .before .before .before .if1 .taken), ne-eqb _ _ (c .before .before .before .before .before .if2 .left))
+    let w = c .before .before .before .before .before in
+    let s = w .before .before .before .before .before .before .before .before .before .before in
+    λ m. simp (c .accepted2 .ensures, c .before .before .before .byte-written .ensures (withCore (s .args .core) (withLevel (s .args .level .now) (withEnabled (s .args .enabled .now) (withActive (s .args .active .now) (withPending (s .args .pending .now) m))))), w .before .before .before .before .register-at .ensures, sym (simp (w .before .before .before .before .register-at .ensures, w .before .before .before .may-write .ensures, ne-eqb _ _ (w .if2 .left)) at (w .before .before .access-refusal .ensures)), eq-eqb _ _ (w .before .if1 .taken), ne-eqb _ _ (w .if2 .left))
 
 refused-requires : tie.Need-refused-requires
 refused-requires c κs = search needs
 
 returns-3 : tie.Need-returns-3
 unfolding writeCall
-returns-3 c = λ nest. simp (c .refused .ensures, sym (simp (c .before .before .before .before .register-at .ensures, c .before .before .before .may-write .ensures) at (c .before .before .access-refusal .ensures)), ne-eqb _ _ (c .before .if1 .left))
+returns-3 c = λ m. simp (c .refused .ensures, sym (simp (c .before .before .before .before .register-at .ensures, c .before .before .before .may-write .ensures) at (c .before .before .access-refusal .ensures)), ne-eqb _ _ (c .before .if1 .left))
 
 pub write-spec : {M : Type 1} → statement M
 write-spec =

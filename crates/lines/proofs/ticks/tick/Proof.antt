@@ -4,6 +4,10 @@ use borrow.Author.Needs.{needs}
 use Rattle.lines.proofs.ticks.tick.Statement.{statement}
 use Rattle.lines.proofs.ticks.tick.Tie as tie
 
+-- an earlier place of the function, from a later one
+abbrev at-tick : tie.After-accepted → tie.After-tick
+at-tick c = c .before .before .before .before .before .before .before .before
+
 tick-requires : tie.Need-tick-requires
 tick-requires c κs = search needs
 
@@ -21,14 +25,14 @@ same-length c = search needs
 
 returns : tie.Need-returns
 unfolding tickCall
-returns c = λ active enabled level priority nest. simp (c .accepted .ensures, c .before .before .before .store-flag .ensures, c .before .before .before .before .before .before .bit-of .ensures, c .before .before .before .before .before .before .before .before .tick .ensures, rw (c .before .before .before .before .before .before .before .before .tick .ensures) at (c .before .before .before .before .before .if1 .taken))
+returns c = λ m. simp (c .accepted .ensures, c .before .before .before .store-flag .ensures, c .before .before .before .before .before .before .bit-of .ensures, (at-tick c) .tick .ensures, rw ((at-tick c) .tick .ensures) at (c .before .before .before .before .before .if1 .taken))
 
 accepted-requires-2 : tie.Need-accepted-requires-2
 accepted-requires-2 c κs = search needs
 
 returns-2 : tie.Need-returns-2
 unfolding tickCall
-returns-2 c = λ active enabled level priority nest. simp (c .accepted2 .ensures, c .before .before .bit-of .ensures, c .before .before .before .before .tick .ensures, rw (c .before .before .before .before .tick .ensures) at (c .before .if1 .left))
+returns-2 c = λ m. simp (c .accepted2 .ensures, c .before .before .bit-of .ensures, c .before .before .before .before .tick .ensures, rw (c .before .before .before .before .tick .ensures) at (c .before .if1 .left))
 
 pub tick-spec : {M : Type 1} → statement M
 tick-spec =

@@ -1,25 +1,43 @@
--- The test of refusal 16 decides between the call on a sound state and the refusal.
-use mathlib.Core.Path.{_∙_, sym, ap}
+-- The arrays are lent and taken back.
+use mathlib.Core.Path.{ap}
 use Rattle.model.specs.View.{reply}
-use Rattle.model.proofs.Laws.{tested, passes, refuses}
 use borrow.Author.Needs.{needs}
 use Rattle.model.proofs.State.step.Statement.{statement}
 use Rattle.model.proofs.State.step.Tie as tie
 
-is-sound-requires : tie.Need-is-sound-requires
-is-sound-requires c κs = search needs
+slice-aggregate-step : tie.Need-slice-aggregate-step
+slice-aggregate-step c = search needs
 
-act-requires : tie.Need-act-requires
-act-requires c κs = tested _ _ (sym (c .before .is-sound .ensures) ∙ c .if1 .taken)
+slice-aggregate-step-2 : tie.Need-slice-aggregate-step-2
+slice-aggregate-step-2 c = search needs
+
+slice-aggregate-step-3 : tie.Need-slice-aggregate-step-3
+slice-aggregate-step-3 c = search needs
+
+slice-aggregate-step-4 : tie.Need-slice-aggregate-step-4
+slice-aggregate-step-4 c = search needs
+
+slice-aggregate-step-5 : tie.Need-slice-aggregate-step-5
+slice-aggregate-step-5 c = search needs
+
+slice-aggregate-step-6 : tie.Need-slice-aggregate-step-6
+slice-aggregate-step-6 c = search needs
+
+step-requires : tie.Need-step-requires
+step-requires c κs = search needs
 
 returns : tie.Need-returns
-returns c = c .act .ensures ∙ ap reply (passes _ _ _ (sym (c .before .before .is-sound .ensures) ∙ c .before .if1 .taken))
-
-refuse-requires : tie.Need-refuse-requires
-refuse-requires c κs = search needs
-
-returns-2 : tie.Need-returns-2
-returns-2 c = c .refuse .ensures ∙ ap reply (refuses _ _ _ (sym (c .before .before .is-sound .ensures) ∙ c .before .if1 .left))
+returns c = ap reply (c .before .before .before .before .before .before .before .step .ensures)
 
 pub step-spec : {M : Type 1} → statement M
-step-spec = tie.close (tie.spec is-sound-requires act-requires returns refuse-requires returns-2)
+step-spec =
+    tie.close
+    (tie.spec
+    slice-aggregate-step
+    slice-aggregate-step-2
+    slice-aggregate-step-3
+    slice-aggregate-step-4
+    slice-aggregate-step-5
+    slice-aggregate-step-6
+    step-requires
+    returns)

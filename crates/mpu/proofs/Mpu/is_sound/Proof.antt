@@ -1,7 +1,8 @@
 -- The tests of the definition; its arrays have eight words.
 use mathlib.Core.Path.{_≡_, sym, _∙_}
+use mathlib.Core.Bool.{and-true}
 use lib.ListN.{length}
-use Rattle.mpu.specs.Soundness.{both, soundMpu}
+use Rattle.mpu.specs.Soundness.{soundMpu}
 use borrow.Author.Needs.{needs}
 use Rattle.mpu.proofs.Mpu.is_sound.Statement.{statement}
 use Rattle.mpu.proofs.Mpu.is_sound.Tie as tie
@@ -9,6 +10,10 @@ use Rattle.mpu.proofs.Mpu.is_sound.Tie as tie
 -- the arrays' lengths, asked where the function begins
 lengths : (c : tie.Start) → (length (c .args .self .bases) ≡ 8) × (length (c .args .self .attributes) ≡ 8)
 lengths c = (search needs, search needs)
+
+-- an earlier place of the function, from a later one
+abbrev at-start : tie.After-attributes2 → tie.Start
+at-start c = c .before .before .before .before .before .before .before
 
 both-requires : tie.Need-both-requires
 both-requires c κs = search needs
@@ -20,14 +25,14 @@ slice-aggregate-regions-kept-2 : tie.Need-slice-aggregate-regions-kept-2
 slice-aggregate-regions-kept-2 c = search needs
 
 regions-kept-requires : tie.Need-regions-kept-requires
-regions-kept-requires c κs = let l = lengths (c .before .before .before .before .before .before .before) in l .0 ∙ sym (l .1)
+regions-kept-requires c κs = let l = lengths (at-start c) in l .0 ∙ sym (l .1)
 
 both-requires-2 : tie.Need-both-requires-2
 both-requires-2 c κs = search needs
 
 returns : tie.Need-returns
-unfolding both soundMpu
-returns c = let l = lengths (c .before .before .before .before .before .before .before .before .before) in simp (c .both2 .ensures, c .before .regions-kept .ensures, c .before .before .before .before .both .ensures, l .0, l .1)
+unfolding soundMpu
+returns c = let l = lengths (at-start (c .before .before)) in simp (c .both2 .ensures, c .before .regions-kept .ensures, c .before .before .before .before .both .ensures, l .0, l .1, and-true)
 
 pub is-sound-spec : {M : Type 1} → statement M
 is-sound-spec =

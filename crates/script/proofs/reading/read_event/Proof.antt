@@ -1,16 +1,21 @@
 -- The tests come in the definition's order: 15, the kind, then what follows it.
-use mathlib.Core.Path.{sym, _∙_}
+use mathlib.Core.Path.{_≡_, sym, ap, _∙_}
 use native.Mathlib.Omega.{arith}
 use lib.ListN.{length}
 use borrow.Author.Tests.{lt-ltb, le-ltb}
+use Rattle.script.specs.declared.ReadEvent.{ReadEvent}
+use Rattle.script.specs.Answers.{readAnswer}
 use Rattle.script.specs.Reading.{readEvent, withKind}
 use borrow.Author.Needs.{needs}
 use Rattle.script.proofs.reading.read_event.Statement.{statement}
 use Rattle.script.proofs.reading.read_event.Tie as tie
 
+answered : {a b : ReadEvent} → a ≡ b → (a ≡ b) × (readAnswer a ≡ readAnswer b)
+answered e = (e, ap readAnswer e)
+
 returns : tie.Need-returns
 unfolding readEvent
-returns c = simp (lt-ltb 65536 (length (c .before .before .args .script .now)) (omega arith))
+returns c = answered (simp (lt-ltb 65536 (length (c .before .before .args .script .now)) (omega arith)))
 
 read-number-requires : tie.Need-read-number-requires
 read-number-requires c κs = search needs
@@ -26,11 +31,11 @@ enum-told c = search needs
 
 returns-2 : tie.Need-returns-2
 unfolding readEvent withKind
-returns-2 c = c .read-arguments .ensures ∙ simp (le-ltb 65536 (length (c .before .before .before .before .before .before .before .args .script .now)) (omega arith), sym (c .before .before .before .before .read-number .ensures) ∙ c .before .before .kind .given .1)
+returns-2 c = answered (c .read-arguments .ensures ∙ simp (le-ltb 65536 (length (c .before .before .before .before .before .before .before .args .script .now)) (omega arith), sym (c .before .before .before .before .read-number .ensures .0) ∙ c .before .before .kind .given .1))
 
 returns-3 : tie.Need-returns-3
 unfolding readEvent withKind
-returns-3 c = simp (le-ltb 65536 (length (c .before .before .before .before .before .args .script .now)) (omega arith), sym (c .before .before .read-number .ensures) ∙ c .enum-told .given .1)
+returns-3 c = answered (simp (le-ltb 65536 (length (c .before .before .before .before .before .args .script .now)) (omega arith), sym (c .before .before .read-number .ensures .0) ∙ c .enum-told .given .1))
 
 pub read-event-spec : {M : Type 1} → statement M
 read-event-spec =

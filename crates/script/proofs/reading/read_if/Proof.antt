@@ -10,7 +10,7 @@ read-number-requires c κs = search needs
 
 returns : tie.Need-returns
 unfolding numberIf
-returns c = c .read-number .ensures ∙ simp (c .before .if1 .taken)
+returns c = c .read-number .ensures .0 ∙ simp (c .before .if1 .taken)
 
 returns-2 : tie.Need-returns-2
 unfolding numberIf

@@ -1,6 +1,6 @@
 -- The sizes of the parts add up; each is at most 5.
 use native.Mathlib.Omega.{arith}
-use Rattle.script.proofs.Bytes.{size-small, event-length}
+use Rattle.script.proofs.Spelling.{size-small, event-length}
 use borrow.Author.Needs.{needs}
 use Rattle.script.proofs.writing.event_size.Statement.{statement}
 use Rattle.script.proofs.writing.event_size.Tie as tie

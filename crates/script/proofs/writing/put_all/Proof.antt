@@ -1,7 +1,7 @@
 -- The parts are stored one after the other: together the bytes of all the numbers.
 use mathlib.Core.Path.{_∙_}
 use native.Mathlib.Omega.{arith}
-use Rattle.script.proofs.Bytes.{event-parts, event-length, sets-append}
+use Rattle.script.proofs.Spelling.{event-parts, event-length, sets-append}
 use borrow.Author.Needs.{needs}
 use Rattle.script.proofs.writing.put_all.Statement.{statement}
 use Rattle.script.proofs.writing.put_all.Tie as tie

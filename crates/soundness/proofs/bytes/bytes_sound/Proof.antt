@@ -8,8 +8,8 @@ use native.Mathlib.Omega.{arith}
 use lib.ListN.{length}
 use borrow.Author.Tests.{not-true, not-false}
 use borrow.Author.Needs.{needs}
-use Rattle.rules.specs.Sound.{every, byteSound}
-use Rattle.soundness.proofs.Laws.{every-false}
+use Rattle.bools.specs.Every.{every, every-false}
+use Rattle.rules.specs.Sound.{byteSound}
 use Rattle.soundness.proofs.bytes.bytes_sound.Statement.{statement}
 use Rattle.soundness.proofs.bytes.bytes_sound.Tie as tie
 
@@ -31,7 +31,7 @@ byte-sound-requires c κs = search needs
 
 returns : tie.Need-returns Inv-loop μ-loop
 unfolding byteSound
-returns c = sym (every-false _ (c .before .before .before .before .loop .n) _ (rw (sym (c .before .before .before .before .before .before .pre .0)) (c .before .before .before .loop-test .taken)) (sym (c .before .byte-sound .ensures) ∙ not-true _ (c .if1 .taken)))
+returns c = sym (every-false _ (c .before .before .before .before .loop .n) _ (rw (sym (c .before .before .before .before .before .before .pre)) (c .before .before .before .loop-test .taken)) (sym (c .before .byte-sound .ensures) ∙ not-true _ (c .if1 .taken)))
 
 add-n : tie.Need-add-n Inv-loop μ-loop
 add-n c = omega arith
@@ -44,7 +44,7 @@ unfolding every byteSound
 loop-again c = (omega arith, simp (add-one, sym (c .before .byte-sound .ensures) ∙ not-false _ (c .if1 .left), c .before .before .before .before .loop .inv .1))
 
 returns-2 : tie.Need-returns-2 Inv-loop μ-loop
-returns-2 c = sym (ap (every _) (sym (le-antisymm (c .before .loop .inv .0) (c .loop-test .left) ∙ c .before .before .before .pre .0)) ∙ c .before .loop .inv .1)
+returns-2 c = sym (ap (every _) (sym (le-antisymm (c .before .loop .inv .0) (c .loop-test .left) ∙ c .before .before .before .pre)) ∙ c .before .loop .inv .1)
 
 pub bytes-sound-spec : {M : Type 1} → statement M
 bytes-sound-spec =

@@ -8,8 +8,8 @@ use native.Mathlib.Omega.{arith}
 use lib.ListN.{length}
 use borrow.Author.Tests.{not-true, not-false}
 use borrow.Author.Needs.{needs}
-use Rattle.rules.specs.Sound.{every, flagSound}
-use Rattle.soundness.proofs.Laws.{every-false}
+use Rattle.bools.specs.Every.{every, every-false}
+use Rattle.rules.specs.Sound.{flagSound}
 use Rattle.soundness.proofs.flags.flags_sound.Statement.{statement}
 use Rattle.soundness.proofs.flags.flags_sound.Tie as tie
 

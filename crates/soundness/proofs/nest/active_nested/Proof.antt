@@ -9,8 +9,8 @@ use lib.ListN.{length}
 use borrow.Author.Tests.{not-true, not-false}
 use borrow.Author.Needs.{needs}
 use Rattle.rules.specs.Model.{down}
-use Rattle.rules.specs.Sound.{every, nestedSound}
-use Rattle.soundness.proofs.Laws.{every-false}
+use Rattle.bools.specs.Every.{every, every-false}
+use Rattle.rules.specs.Sound.{nestedSound}
 use Rattle.soundness.proofs.nest.active_nested.Statement.{statement}
 use Rattle.soundness.proofs.nest.active_nested.Tie as tie
 

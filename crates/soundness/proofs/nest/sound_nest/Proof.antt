@@ -2,11 +2,16 @@
 use mathlib.Core.Path.{sym, ap, _∙_}
 use mathlib.Core.Bool.{and-false}
 use borrow.Author.Tests.{le-leb, lt-leb, not-true, not-false}
-use Rattle.rules.specs.Sound.{every, soundNest}
-use Rattle.soundness.proofs.Laws.{both, last}
+use Rattle.bools.specs.Every.{every}
+use Rattle.rules.specs.Sound.{soundNest}
+use Rattle.bools.specs.Tests.{and-true-of, and-last}
 use borrow.Author.Needs.{needs}
 use Rattle.soundness.proofs.nest.sound_nest.Statement.{statement}
 use Rattle.soundness.proofs.nest.sound_nest.Tie as tie
+
+-- an earlier place of the function, from a later one
+abbrev at-start : tie.After-active-nested → tie.Start
+at-start c = c .before .before .before .before .before .before
 
 returns : tie.Need-returns
 unfolding soundNest
@@ -29,7 +34,7 @@ active-nested-requires c κs = search needs
 returns-3 : tie.Need-returns-3
 unfolding soundNest
 returns-3 c =
-    let s = c .before .before .before .before .before .before .before in
+    let s = at-start (c .before) in
     simp (ap (every _) (sym (s .pre .0)) ∙ sym (c .before .active-nested .ensures) ∙ not-true _ (c .if3 .taken), and-false)
 
 nested-active-requires : tie.Need-nested-active-requires
@@ -45,12 +50,12 @@ are-distinct-requires c κs = search needs
 returns-5 : tie.Need-returns-5
 unfolding soundNest
 returns-5 c =
-    let s = c .before .before .before .before .before .before .before .before .before .before in
+    let s = at-start (c .before .before .before .before) in
     let fits = le-leb _ _ (rw (s .pre .1) at (c .before .before .before .before .before .before .before .if1 .left)) in
     let unused = ap (every _) (sym (s .pre .1)) ∙ sym (c .before .before .before .before .before .before .unused-sound .ensures) ∙ not-false _ (c .before .before .before .before .before .if2 .left) in
     let nested = ap (every _) (sym (s .pre .0)) ∙ sym (c .before .before .before .before .active-nested .ensures) ∙ not-false _ (c .before .before .before .if3 .left) in
     let shown = sym (c .before .before .nested-active .ensures) ∙ not-false _ (c .before .if4 .left) in
-    c .are-distinct .ensures ∙ last (both (both (both fits unused) nested) shown)
+    c .are-distinct .ensures ∙ and-last (and-true-of (and-true-of (and-true-of fits unused) nested) shown)
 
 pub sound-nest-spec : {M : Type 1} → statement M
 sound-nest-spec =

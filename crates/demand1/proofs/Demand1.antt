@@ -1,0 +1,193 @@
+-- Each call is its refusals in a row, each with a number of its kind and nothing else, and then what it does; the test of soundness comes before all.
+use Prim.Native.Nat.{ℕ, _%_}
+use mathlib.Core.Path.{_≡_, refl, subst}
+use mathlib.Core.Logic.{_⊎_, inl, inr, _↔_}
+use mathlib.Core.List.{[], _∷_}
+use mathlib.Core.Bool.{Bool, true, false, not, cond, _||_}
+use native.Mathlib.Omega.{arith}
+use lib.Dec.{T, ltb, leb, eqb, T-not}
+use lib.IntN.{ℤ}
+use Rattle.priority.specs.declared.Found.{Found}
+use Rattle.priority.specs.declared.Found.the-variants.{At, Nothing}
+use Rattle.bools.specs.Tests.{by-cases, either, is-false}
+use Rattle.script.specs.declared.Event.{Event}
+use Rattle.script.specs.declared.Event.the-variants as event
+use Rattle.script.specs.Event.{accessNumber}
+use Rattle.rules.specs.declared.Chip.{Chip}
+use Rattle.rules.specs.declared.System.{System}
+use Rattle.rules.specs.declared.Register.{Register}
+use Rattle.rules.specs.declared.Register.the-variants as reg
+use Rattle.rules.specs.Chip.{isIn}
+use Rattle.rules.specs.Model.{Model, Answer, refuse}
+use Rattle.rules.specs.Priorities.{execution, isNegative, privileged}
+use Rattle.rules.specs.Sound.{isSound}
+use Rattle.rules.specs.Events.{lineCall, tickCall, escalates, raised, faultException, faultStatus, faultRaised, faultAt, faultCall, svcAt, svcCall, specialAt, specialCall}
+use Rattle.rules.specs.Nesting.{chosen, enter, entryAt, entryCall, linkFits, returnCall}
+use Rattle.rules.specs.Map.{registerOf, widthRefusal}
+use Rattle.rules.specs.Registers.{isWidth, accessRefusal, readCall, freeWrite, writeCall}
+use Rattle.rules.specs.Access.{fitsAccess, accessAt, accessCall}
+use Rattle.rules.specs.Step.{actOf, guarded, stepOf}
+use Rattle.demand1.specs.Demand1.{ownRefusals, Refused, Demand1}
+
+-- ---- the checks of a register access give 0 or one of 1 to 5
+
+abbrev Among : ℕ → Type 0
+Among n = T (isIn n (0 ∷ 1 ∷ 2 ∷ 3 ∷ 4 ∷ 5 ∷ []))
+
+width-among : (r : Register) (w : ℕ) → Among (widthRefusal r w)
+unfolding widthRefusal
+width-among reg.Missing w = tt
+width-among (reg.Timer r) w = by-cases Among (eqb w 4) (λ _. tt) (λ _. tt)
+width-among (reg.Flags b n) w = by-cases Among (eqb w 4) (λ _. tt) (λ _. tt)
+width-among (reg.Priority n) w = by-cases Among (eqb w 2) (λ _. tt) (λ _. tt)
+width-among (reg.System r) w = by-cases Among (eqb w 4) (λ _. tt) (λ _. tt)
+width-among (reg.Guard r) w = by-cases Among (eqb w 4) (λ _. tt) (λ _. tt)
+
+access-among : (r : Register) (allowed : Bool) (w a : ℕ) → Among (accessRefusal r allowed w a)
+unfolding accessRefusal
+access-among r allowed w a =
+    by-cases Among (not (isWidth w)) (λ _. tt)
+    (λ _. by-cases Among (not (eqb (a % w) 0)) (λ _. tt)
+    (λ _. by-cases Among (not allowed) (λ _. tt) (λ _. width-among r w)))
+
+-- not 0, so one of the others
+refused-among : (n : ℕ) → T (not (eqb n 0)) → Among n → T (isIn n (1 ∷ 2 ∷ 3 ∷ 4 ∷ 5 ∷ []))
+refused-among n some t = go (either (eqb n 0) (isIn n (1 ∷ 2 ∷ 3 ∷ 4 ∷ 5 ∷ [])) t)
+  where
+    go : T (eqb n 0) ⊎ T (isIn n (1 ∷ 2 ∷ 3 ∷ 4 ∷ 5 ∷ [])) → T (isIn n (1 ∷ 2 ∷ 3 ∷ 4 ∷ 5 ∷ []))
+    go (inl z) = absurd (T-not (eqb n 0) some z)
+    go (inr u) = u
+
+-- ---- every event
+
+module _ (c : Chip) (m : Model) where
+  -- what an event does to a sound model has none but the refusals of its own kind
+  record Own (e : Event) (a : Answer) : Type 0 where
+    number : T (isIn (a .refusal) (ownRefusals e))
+    nothing : a ≡ refuse (a .refusal) m
+
+  abbrev Fine : Event → Answer → Type 0
+  Fine e a = (a .refusal ≡ 0) ⊎ Own e a
+
+  read-fine : (w a : ℕ) → Fine (event.Read w a) (readCall c m w a)
+  unfolding readCall
+  read-fine w a =
+      let n = accessRefusal (registerOf c a) (privileged (m .core)) w a in
+      by-cases (Fine (event.Read w a)) (eqb n 0) (λ _. inl refl)
+      (λ some. inr (record { number = refused-among n some (access-among (registerOf c a) (privileged (m .core)) w a); nothing = refl }))
+
+  write-fine : (w a v : ℕ) → Fine (event.Write w a v) (writeCall c m w a v)
+  unfolding writeCall
+  write-fine w a v =
+      let may = privileged (m .core) || freeWrite (m .core) w a in
+      let n = accessRefusal (registerOf c a) may w a in
+      by-cases (Fine (event.Write w a v)) (eqb n 0) (λ _. inl refl)
+      (λ some. inr (record { number = refused-among n some (access-among (registerOf c a) may w a); nothing = refl }))
+
+  line-fine : (line level : ℕ) → Fine (event.Line line level) (lineCall c m line level)
+  unfolding lineCall
+  line-fine line level =
+      by-cases (Fine (event.Line line level)) (leb (c .lines) line || ltb 1 level) (λ _. inr (record { number = tt; nothing = refl })) (λ _. inl refl)
+
+  tick-fine : Fine event.Tick (tickCall m)
+  unfolding tickCall
+  tick-fine = inl refl
+
+  -- the number made pending is never a refusal
+  raised-fine : (e : Event) (limit : ℤ) (n : ℕ) (status : System) → Fine e (raised limit m n status)
+  unfolding raised
+  raised-fine e limit n status = by-cases (Fine e) (escalates limit m n) (λ _. inl refl) (λ _. inl refl)
+
+  fault-fine : (b a : ℕ) → Fine (event.Fault b a) (faultCall m b a)
+  unfolding faultAt
+  fault-fine b a = go (faultException b)
+    where
+      go : (o : Found) → Fine (event.Fault b a) (faultRaised (execution m) m o b a)
+      go Nothing = inr (record { number = tt; nothing = refl })
+      go (At n) =
+          by-cases (Fine (event.Fault b a)) (isNegative (execution m)) (λ _. inr (record { number = tt; nothing = refl }))
+          (λ _. raised-fine (event.Fault b a) (execution m) n (faultStatus b a (m .core .system)))
+
+  svc-fine : Fine event.Svc (svcCall m)
+  unfolding svcAt
+  svc-fine =
+      by-cases (Fine event.Svc) (isNegative (execution m)) (λ _. inr (record { number = tt; nothing = refl }))
+      (λ _. raised-fine event.Svc (execution m) 11 (m .core .system))
+
+  special-fine : (which v : ℕ) → Fine (event.Special which v) (specialCall c m which v)
+  unfolding specialAt
+  special-fine which v =
+      by-cases (Fine (event.Special which v)) (ltb 4 which) (λ _. inr (record { number = tt; nothing = refl }))
+      (λ _. by-cases (Fine (event.Special which v)) (privileged (m .core)) (λ _. inl refl) (λ _. inl refl))
+
+  entry-fine : Fine event.Entry (entryCall m)
+  unfolding entryAt
+  entry-fine = go (chosen m)
+    where
+      go : (o : Found) → Fine event.Entry (enter m o)
+      go Nothing = inr (record { number = tt; nothing = refl })
+      go (At n) = inl refl
+
+  return-fine : (v : ℕ) → Fine (event.Return v) (returnCall m v)
+  unfolding returnCall
+  return-fine v = by-cases (Fine (event.Return v)) (linkFits (m .core .depth) v) (λ _. inl refl) (λ _. inr (record { number = tt; nothing = refl }))
+
+  access-fine : (k w a : ℕ) (e : Event) → ownRefusals e ≡ 6 ∷ 1 ∷ 2 ∷ [] → Fine e (accessCall m k w a)
+  unfolding accessAt
+  access-fine k w a e q =
+      by-cases (Fine e) (ltb 2 k) (λ _. inr (record { number = rw q tt; nothing = refl }))
+      (λ _. by-cases (Fine e) (not (fitsAccess k w)) (λ _. inr (record { number = rw q tt; nothing = refl }))
+      (λ _. by-cases (Fine e) (not (eqb (a % w) 0)) (λ _. inr (record { number = rw q tt; nothing = refl })) (λ _. inl refl)))
+
+  act-fine : (e : Event) → Fine e (actOf c m e)
+  act-fine (event.Read w a) = read-fine w a
+  act-fine (event.Write w a v) = write-fine w a v
+  act-fine (event.Line line level) = line-fine line level
+  act-fine event.Nmi = inl refl
+  act-fine event.Tick = tick-fine
+  act-fine (event.Fault b a) = fault-fine b a
+  act-fine event.Svc = svc-fine
+  act-fine (event.Special which v) = special-fine which v
+  act-fine event.Entry = entry-fine
+  act-fine (event.Return v) = return-fine v
+  act-fine (event.Access kind w a) = access-fine (accessNumber kind) w a (event.Access kind w a) refl
+
+  no-sixteen : (e : Event) → T (isIn 16 (ownRefusals e)) → ⊥
+  no-sixteen (event.Read w a) t = t
+  no-sixteen (event.Write w a v) t = t
+  no-sixteen (event.Line line level) t = t
+  no-sixteen event.Nmi t = t
+  no-sixteen event.Tick t = t
+  no-sixteen (event.Fault b a) t = t
+  no-sixteen event.Svc t = t
+  no-sixteen (event.Special which v) t = t
+  no-sixteen event.Entry t = t
+  no-sixteen (event.Return v) t = t
+  no-sixteen (event.Access kind w a) t = t
+
+  events : (e : Event) → (stepOf c m e .refusal ≡ 0) ⊎ Refused e m (stepOf c m e)
+  unfolding guarded
+  events e = by-cases (λ a. (a .refusal ≡ 0) ⊎ Refused e m a) (isSound c m) (λ _. weak (act-fine e)) (λ _. inr (record { number = tt; nothing = refl }))
+    where
+      later : (b d : Bool) → T d → T (b || d)
+      later true d u = tt
+      later false d u = u
+
+      weak : {a : Answer} → Fine e a → (a .refusal ≡ 0) ⊎ Refused e m a
+      weak (inl z) = inl z
+      weak {a} (inr r) = inr (record { number = later (eqb (a .refusal) 16) (isIn (a .refusal) (ownRefusals e)) (r .number); nothing = r .nothing })
+
+  unsound : (e : Event) → (stepOf c m e .refusal ≡ 16) ↔ (isSound c m ≡ false)
+  unfolding guarded
+  unsound e = go (isSound c m)
+    where
+      never : Fine e (actOf c m e) → actOf c m e .refusal ≡ 16 → ⊥
+      never (inl z) q = omega arith
+      never (inr r) q = no-sixteen e (subst (λ n. T (isIn n (ownRefusals e))) q (r .number))
+
+      go : (b : Bool) → (cond b (actOf c m e) (refuse 16 m) .refusal ≡ 16) ↔ (b ≡ false)
+      go true = (λ q. absurd (never (act-fine e) q), λ q. absurd (is-false q tt))
+      go false = (λ _. refl, λ _. refl)
+
+pub demand1 : (c : Chip) → Demand1 c
+demand1 c = record { events = events c; unsound = unsound c }

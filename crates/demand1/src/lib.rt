@@ -1,0 +1,1 @@
+// Refusals: the first demand. Nothing here runs: the statement is specs/Demand1.antt.

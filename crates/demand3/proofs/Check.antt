@@ -1,0 +1,215 @@
+-- The test of a model passes exactly on the sound ones, part by part. So on a sound model a call acts.
+use Prim.Native.Nat.{ℕ, _≤_, _<_}
+use mathlib.Core.Path.{_≡_, refl, sym, subst}
+use mathlib.Core.Logic.{_⊎_, inl, inr}
+use mathlib.Core.List.{List, [], _∷_, List·Memᴰ, List·Memᴰ·head, List·Memᴰ·tail, List·Memᴰ·not-nil, List·Memᴰ·cases-cons}
+use mathlib.Core.Bool.{Bool, true, false, not, _||_}
+use native.Mathlib.Omega.{arith}
+use lib.ListN.{length, getD, List·getD-eq-default}
+use lib.Dec.{T, ltb, eqb, le→leb, ltb→lt, lt→ltb, eqb→eq, T-not, not-T, nltb→le}
+use Rattle.flag_words.specs.Flags.{on}
+use Rattle.grouping.specs.Grouping.{keptByte}
+use Rattle.bools.specs.Tests.{is-true, true-is, fails, same, both, and-l, and-r, join, or-of, of-or, if-of, of-if}
+use Rattle.bools.specs.Every.{every, every-of, of-every}
+use Rattle.priority.specs.Order.{flag-below, Distinct}
+use Rattle.systick.specs.Laws.{sound-timer-of, of-sound-timer}
+use Rattle.mpu.specs.Soundness.{sound-mpu-of, of-sound-mpu}
+use Rattle.script.specs.declared.Event.{Event}
+use Rattle.rules.specs.declared.Chip.{Chip}
+use Rattle.rules.specs.declared.Place.{Place}
+use Rattle.rules.specs.declared.Place.the-variants.{Exception, Enable, Line}
+use Rattle.rules.specs.declared.System.{System}
+use Rattle.rules.specs.Chip.{flagCount, exceptionCount, isIn, hasByte, stands}
+use Rattle.rules.specs.Model.{Model, stack}
+use Rattle.rules.specs.SystemBlock.{keptVtable, keptSysctrl, keptCfgctrl, keptFaultstat, keptHfaultstat}
+use Rattle.rules.specs.Sound.{flagSound, byteSound, nestedSound, allOn, allDistinct, unusedSound, soundNest, soundFlags, soundSystem, isSized, isSound, Flags, PriorityBytes, Nested, Places, SoundSystem, Sound}
+use Rattle.rules.specs.Step.{actOf, guarded, stepOf}
+use Rattle.rules.specs.Laws.{isIn-mem, mem-isIn}
+use Rattle.demand3.proofs.Parts.{kept-byte-zero, down-length, nested-fits}
+
+-- ---- lists of numbers
+
+allOn-of : (l : List Bool) (xs : List ℕ) → ((n : ℕ) → List·Memᴰ n xs → T (on l n)) → T (allOn l xs)
+allOn-of l [] f = tt
+allOn-of l (x ∷ xs) f = join (on l x) (allOn l xs) (f x (List·Memᴰ·head refl)) (allOn-of l xs (λ n m. f n (List·Memᴰ·tail m)))
+
+of-allOn : (l : List Bool) (xs : List ℕ) → T (allOn l xs) → (n : ℕ) → List·Memᴰ n xs → T (on l n)
+of-allOn l [] t n m = absurd (List·Memᴰ·not-nil m)
+of-allOn l (x ∷ xs) t n m = go (both (on l x) (allOn l xs) t) (λ u k. of-allOn l xs u n k) (List·Memᴰ·cases-cons m)
+  where
+    go : T (on l x) × T (allOn l xs) → (T (allOn l xs) → List·Memᴰ n xs → T (on l n)) → (n ≡ x) ⊎ List·Memᴰ n xs → T (on l n)
+    go u below (inl e) = rw e (u .0)
+    go u below (inr k) = below (u .1) k
+
+distinct-of : (xs : List ℕ) → Distinct xs → T (allDistinct xs)
+distinct-of [] d = tt
+distinct-of (x ∷ xs) d = join (not (isIn x xs)) (allDistinct xs) (not-T (isIn x xs) (λ t. d .0 (isIn-mem x xs t))) (distinct-of xs (d .1))
+
+of-distinct : (xs : List ℕ) → T (allDistinct xs) → Distinct xs
+of-distinct [] t = tt
+of-distinct (x ∷ xs) t = let p = both (not (isIn x xs)) (allDistinct xs) t in (λ m. T-not (isIn x xs) (p .0) (mem-isIn x xs m), of-distinct xs (p .1))
+
+-- a fact of each element of a list of known length, and of what is read past its end
+at-each : (P : ℕ → ℕ → Type 0) (l : List ℕ) (k : ℕ) → length l ≡ k → ((n : ℕ) → P n 0) → ((n : ℕ) → n < k → P n (getD l n 0)) → (n : ℕ) → P n (getD l n 0)
+at-each P l k size past f n = go (ltb n k) refl
+  where
+    go : (b : Bool) → ltb n k ≡ b → P n (getD l n 0)
+    go true e = f n (ltb→lt n k (is-true e))
+    go false e =
+        let h = nltb→le n k (fails e) in
+        subst (P n) (sym (List·getD-eq-default l 0 {n = n} (omega arith))) (past n)
+
+-- ---- the parts
+
+module _ (c : Chip) where
+  flags-of : (place : Place) (l : List Bool) → Flags c place l → T (every (flagSound c place l) (flagCount c))
+  unfolding flagSound
+  flags-of place l f = every-of (flagSound c place l) (flagCount c) (λ n _. if-of (on l n) (stands c place n) (f .only n))
+
+  of-flags : (place : Place) (l : List Bool) → length l ≡ flagCount c → T (every (flagSound c place l) (flagCount c)) → Flags c place l
+  unfolding flagSound
+  of-flags place l size t =
+      record { size = size; only = λ n b. of-if (on l n) (stands c place n) (of-every (flagSound c place l) (flagCount c) n (rw size at (flag-below l n b)) t) b }
+
+  bytes-of : (l : List ℕ) → PriorityBytes c l → T (every (byteSound c l) (flagCount c))
+  unfolding byteSound
+  bytes-of l h =
+      every-of (byteSound c l) (flagCount c)
+      (λ n _. join (eqb (keptByte (c .bits) (getD l n 0)) (getD l n 0)) (hasByte c n || eqb (getD l n 0) 0)
+      (same (keptByte (c .bits) (getD l n 0)) (getD l n 0) (h .each n))
+      (or-of (hasByte c n) (eqb (getD l n 0) 0) (λ no. same (getD l n 0) 0 (h .none n no))))
+
+  of-bytes : (l : List ℕ) → length l ≡ flagCount c → T (every (byteSound c l) (flagCount c)) → PriorityBytes c l
+  unfolding byteSound
+  of-bytes l size t =
+      record {
+        size = size;
+        each = at-each (λ n x. keptByte (c .bits) x ≡ x) l (flagCount c) size (λ n. kept-byte-zero (c .bits)) (λ n k. eqb→eq (keptByte (c .bits) (getD l n 0)) (getD l n 0) (parts n k .0));
+        none = at-each (λ n x. (T (hasByte c n) → ⊥) → x ≡ 0) l (flagCount c) size (λ n _. refl) (λ n k no. eqb→eq (getD l n 0) 0 (of-or (hasByte c n) (eqb (getD l n 0) 0) (parts n k .1) no));
+      }
+    where
+      parts : (n : ℕ) → n < flagCount c → T (eqb (keptByte (c .bits) (getD l n 0)) (getD l n 0)) × T (hasByte c n || eqb (getD l n 0) 0)
+      parts n k = both (eqb (keptByte (c .bits) (getD l n 0)) (getD l n 0)) (hasByte c n || eqb (getD l n 0) 0) (of-every (byteSound c l) (flagCount c) n k t)
+
+  places-of : (nest : List ℕ) (depth : ℕ) → Places c nest depth → T (every (unusedSound nest depth) (exceptionCount c))
+  unfolding unusedSound
+  places-of nest depth h =
+      every-of (unusedSound nest depth) (exceptionCount c)
+      (λ i _. or-of (ltb i depth) (eqb (getD nest i 0) 0) (λ no. same (getD nest i 0) 0 (h .unused i (nltb→le i depth (not-T (ltb i depth) no)))))
+
+  of-places : (nest : List ℕ) (depth : ℕ) → length nest ≡ exceptionCount c → T (every (unusedSound nest depth) (exceptionCount c)) → Places c nest depth
+  unfolding unusedSound
+  of-places nest depth size t =
+      record {
+        size = size;
+        unused = at-each (λ i x. depth ≤ i → x ≡ 0) nest (exceptionCount c) size (λ i _. refl)
+            (λ i k l. eqb→eq (getD nest i 0) 0 (of-or (ltb i depth) (eqb (getD nest i 0) 0) (of-every (unusedSound nest depth) (exceptionCount c) i k t) (λ u. let v = ltb→lt i depth u in omega arith)));
+      }
+
+  stacked-of : (active : List Bool) (xs : List ℕ) → Nested active xs → T (every (nestedSound active xs) (flagCount c))
+  unfolding nestedSound
+  stacked-of active xs h = every-of (nestedSound active xs) (flagCount c) (λ n _. if-of (on active n) (isIn n xs) (λ t. mem-isIn n xs (h .stacked n t)))
+
+  of-stacked : (active : List Bool) (xs : List ℕ) → length active ≡ flagCount c → T (every (nestedSound active xs) (flagCount c)) → (n : ℕ) → T (on active n) → List·Memᴰ n xs
+  unfolding nestedSound
+  of-stacked active xs size t n b =
+      isIn-mem n xs (of-if (on active n) (isIn n xs) (of-every (nestedSound active xs) (flagCount c) n (rw size at (flag-below active n b)) t) b)
+
+system-of : (s : System) → SoundSystem s → T (soundSystem s)
+unfolding soundSystem
+system-of s h =
+    let a = same (keptVtable (s .vtable)) (s .vtable) (h .vtable) in
+    let b = same (keptSysctrl (s .sysctrl)) (s .sysctrl) (h .sysctrl) in
+    let d = same (keptCfgctrl (s .cfgctrl)) (s .cfgctrl) (h .cfgctrl) in
+    let e = same (keptFaultstat (s .faultstat)) (s .faultstat) (h .faultstat) in
+    let f = same (keptHfaultstat (s .hfaultstat)) (s .hfaultstat) (h .hfaultstat) in
+    search join
+
+of-system : (s : System) → T (soundSystem s) → SoundSystem s
+unfolding soundSystem
+of-system s t =
+    record {
+      vtable = eqb→eq (keptVtable (s .vtable)) (s .vtable) (search (and-l, and-r));
+      sysctrl = eqb→eq (keptSysctrl (s .sysctrl)) (s .sysctrl) (search (and-l, and-r));
+      cfgctrl = eqb→eq (keptCfgctrl (s .cfgctrl)) (s .cfgctrl) (search (and-l, and-r));
+      faultstat = eqb→eq (keptFaultstat (s .faultstat)) (s .faultstat) (search (and-l, and-r));
+      hfaultstat = eqb→eq (keptHfaultstat (s .hfaultstat)) (s .hfaultstat) (search (and-l, and-r));
+    }
+
+-- ---- the whole
+
+pub depth-fits : {c : Chip} {m : Model} → Sound c m → m .core .depth ≤ exceptionCount c
+depth-fits {c} {m} h = rw (down-length (m .nest) (m .core .depth)) at (nested-fits c (m .active) (stack m) (h .active) (h .nested))
+
+module _ (c : Chip) (m : Model) where
+  sized-of : Sound c m → T (isSized c m)
+  unfolding isSized
+  sized-of h =
+      let a = same (length (m .pending)) (flagCount c) (h .pending .size) in
+      let b = same (length (m .active)) (flagCount c) (h .active .size) in
+      let d = same (length (m .enabled)) (flagCount c) (h .enabled .size) in
+      let e = same (length (m .level)) (flagCount c) (h .level .size) in
+      let f = same (length (m .priority)) (flagCount c) (h .priority .size) in
+      let g = same (length (m .nest)) (exceptionCount c) (h .places .size) in
+      search join
+
+  all-flags-of : Sound c m → T (soundFlags c (m .pending) (m .active) (m .enabled) (m .level))
+  unfolding soundFlags
+  all-flags-of h =
+      let a = flags-of c Exception (m .pending) (h .pending) in
+      let b = flags-of c Exception (m .active) (h .active) in
+      let d = flags-of c Enable (m .enabled) (h .enabled) in
+      let e = flags-of c Line (m .level) (h .level) in
+      search join
+
+  nest-of : Sound c m → T (soundNest c (m .active) (m .nest) (m .core .depth))
+  unfolding soundNest
+  nest-of h =
+      let a = le→leb (m .core .depth) (exceptionCount c) (depth-fits h) in
+      let b = places-of c (m .nest) (m .core .depth) (h .places) in
+      let d = stacked-of c (m .active) (stack m) (h .nested) in
+      let e = allOn-of (m .active) (stack m) (h .nested .shown) in
+      let f = distinct-of (stack m) (h .nested .distinct) in
+      search join
+
+pub sound-of : {c : Chip} {m : Model} → Sound c m → T (isSound c m)
+unfolding isSound
+sound-of {c} {m} h =
+    let a = sized-of c m h in
+    let b = all-flags-of c m h in
+    let d = bytes-of c (m .priority) (h .priority) in
+    let e = nest-of c m h in
+    let f = lt→ltb (m .core .group) 8 (h .core .group) in
+    let g = same (keptByte (c .bits) (m .core .masks .basepri)) (m .core .masks .basepri) (h .core .basepri) in
+    let i = sound-timer-of (h .core .timer) in
+    let j = sound-mpu-of (h .core .guard) in
+    let k = system-of (m .core .system) (h .core .system) in
+    search join depth 10
+
+pub of-sound : (c : Chip) (m : Model) → T (isSound c m) → Sound c m
+unfolding isSound isSized soundFlags soundNest
+of-sound c m t =
+    let sized : T (isSized c m) = search (and-l, and-r) depth 10 in
+    let flagged : T (soundFlags c (m .pending) (m .active) (m .enabled) (m .level)) = search (and-l, and-r) depth 10 in
+    let nested : T (soundNest c (m .active) (m .nest) (m .core .depth)) = search (and-l, and-r) depth 10 in
+    let size = eqb→eq (length (m .active)) (flagCount c) (search (and-l, and-r) depth 10) in
+    record {
+      pending = of-flags c Exception (m .pending) (eqb→eq (length (m .pending)) (flagCount c) (search (and-l, and-r) depth 10)) (search (and-l, and-r) depth 10);
+      active = of-flags c Exception (m .active) size (search (and-l, and-r) depth 10);
+      enabled = of-flags c Enable (m .enabled) (eqb→eq (length (m .enabled)) (flagCount c) (search (and-l, and-r) depth 10)) (search (and-l, and-r) depth 10);
+      level = of-flags c Line (m .level) (eqb→eq (length (m .level)) (flagCount c) (search (and-l, and-r) depth 10)) (search (and-l, and-r) depth 10);
+      priority = of-bytes c (m .priority) (eqb→eq (length (m .priority)) (flagCount c) (search (and-l, and-r) depth 10)) (search (and-l, and-r) depth 10);
+      places = of-places c (m .nest) (m .core .depth) (eqb→eq (length (m .nest)) (exceptionCount c) (search (and-l, and-r) depth 10)) (search (and-l, and-r) depth 10);
+      nested = record { distinct = of-distinct (stack m) (search (and-l, and-r) depth 10); shown = of-allOn (m .active) (stack m) (search (and-l, and-r) depth 10); stacked = of-stacked c (m .active) (stack m) size (search (and-l, and-r) depth 10) };
+      core = record {
+        group = ltb→lt (m .core .group) 8 (search (and-l, and-r) depth 10);
+        basepri = eqb→eq (keptByte (c .bits) (m .core .masks .basepri)) (m .core .masks .basepri) (search (and-l, and-r) depth 10);
+        timer = of-sound-timer (m .core .timer) (search (and-l, and-r) depth 10);
+        guard = of-sound-mpu (m .core .guard) (search (and-l, and-r) depth 10);
+        system = of-system (m .core .system) (search (and-l, and-r) depth 10);
+      };
+    }
+
+pub step-sound : {c : Chip} {m : Model} → Sound c m → (e : Event) → stepOf c m e ≡ actOf c m e
+unfolding guarded
+step-sound {c} {m} h e = rw (true-is (isSound c m) (sound-of h))

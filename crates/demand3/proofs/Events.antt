@@ -1,0 +1,123 @@
+-- Lines, NMI, SysTick, faults, SVC and the special registers leave the nest alone and keep the model sound.
+use Prim.Native.Nat.{ℕ, _+_}
+use mathlib.Core.Path.{_≡_}
+use mathlib.Core.List.{[], _∷_}
+use mathlib.Core.Bool.{Bool, true, not, _&&_, _||_}
+use native.Mathlib.Omega.{arith}
+use lib.Dec.{T, ltb, leb, eqb, nleb→lt}
+use Rattle.flag_words.specs.Flags.{on}
+use Rattle.bits.specs.Words.{bitAt, withBit}
+use Rattle.grouping.specs.Grouping.{keptByte}
+use Rattle.bools.specs.Tests.{not-or-left, by-cases}
+use Rattle.priority.specs.declared.Found.the-variants.{At}
+use Rattle.systick.specs.Timer.{tickOf}
+use Rattle.systick.specs.Laws.{tick-sound}
+use Rattle.rules.specs.declared.Chip.{Chip}
+use Rattle.rules.specs.declared.Place.the-variants.{Exception, Line}
+use Rattle.rules.specs.declared.Masks.{Masks}
+use Rattle.rules.specs.declared.System.{System}
+use Rattle.rules.specs.Chip.{isIn, isLine, exists}
+use Rattle.rules.specs.Model.{Model, Answer}
+use Rattle.rules.specs.Priorities.{execution, isNegative, privileged}
+use Rattle.rules.specs.SystemBlock.{keptFaultstat}
+use Rattle.rules.specs.Sound.{SoundSystem, Sound}
+use Rattle.rules.specs.Events.{levelled, lineCall, nmiCall, tickCall, escalates, forced, raised, faultException, faultStatus, faultRaised, faultAt, faultCall, svcAt, svcCall, faultmaskWritten, basepriRaised, controlWritten, specialWritten, specialAt, specialCall}
+use Rattle.demand3.proofs.Words.{inside, faultstatFields, faultstat-with, hfaultstat-with}
+use Rattle.rules.specs.Laws.{all, in-all}
+use Rattle.demand3.proofs.Exceptions.{is-line, line-stands}
+use Rattle.demand3.proofs.Parts.{flags-set, kept-byte-twice}
+use Rattle.demand3.proofs.Quiet.{Quiet, stay, put-level, put-masks, put-timer, put-system, pend-quiet}
+
+-- ---- the system block after a fault
+
+pub forced-sound : {s : System} → SoundSystem s → SoundSystem (forced s)
+forced-sound {s} h =
+    record { vtable = h .vtable; sysctrl = h .sysctrl; cfgctrl = h .cfgctrl; faultstat = h .faultstat; hfaultstat = hfaultstat-with _ (s .hfaultstat) (h .hfaultstat) }
+
+pub status-sound : (b address : ℕ) {s : System} → T (inside faultstatFields b) → SoundSystem s → SoundSystem (faultStatus b address s)
+unfolding faultStatus
+status-sound b address {s} t h =
+    record {
+      vtable = h .vtable;
+      sysctrl = h .sysctrl;
+      cfgctrl = h .cfgctrl;
+      faultstat =
+          by-cases (λ x. keptFaultstat x ≡ x) (eqb b 1)
+          (λ _. faultstat-with 7 (withBit 1 true (s .faultstat)) tt (faultstat-with 1 (s .faultstat) tt (h .faultstat)))
+          (λ _. by-cases (λ x. keptFaultstat x ≡ x) (eqb b 9)
+          (λ _. faultstat-with 15 (withBit 9 true (s .faultstat)) tt (faultstat-with 9 (s .faultstat) tt (h .faultstat)))
+          (λ _. faultstat-with b (s .faultstat) t (h .faultstat)));
+      hfaultstat = h .hfaultstat;
+    }
+
+-- ---- the masks
+
+abbrev pub KeptBasepri : Chip → Masks → Type 0
+KeptBasepri c k = keptByte (c .bits) (k .basepri) ≡ k .basepri
+
+pub special-kept : (c : Chip) (which v : ℕ) (negative thread : Bool) (k : Masks) → KeptBasepri c k → KeptBasepri c (specialWritten c which v negative thread k)
+unfolding specialWritten faultmaskWritten basepriRaised controlWritten
+special-kept c which v negative thread k e =
+    by-cases (KeptBasepri c) (eqb which 0) (λ _. e)
+    (λ _. by-cases (KeptBasepri c) (eqb which 1) (λ _. by-cases (KeptBasepri c) (bitAt 0 v && negative) (λ _. e) (λ _. e))
+    (λ _. by-cases (KeptBasepri c) (eqb which 2) (λ _. kept-byte-twice (c .bits) v)
+    (λ _. by-cases (KeptBasepri c) (eqb which 3)
+    (λ _. by-cases (KeptBasepri c) (not (eqb (keptByte (c .bits) v) 0) && (ltb (keptByte (c .bits) v) (k .basepri) || eqb (k .basepri) 0)) (λ _. kept-byte-twice (c .bits) v) (λ _. e))
+    (λ _. e))))
+
+-- ---- the calls
+
+module _ {c : Chip} {m : Model} (h : Sound c m) where
+  abbrev Leaves : Answer → Type 0
+  Leaves a = Quiet c m (a .next)
+
+  levelled-quiet : (n : ℕ) (high : Bool) → T (isLine c n) → Quiet c m (levelled n high m)
+  unfolding levelled
+  levelled-quiet n high t =
+      by-cases (Quiet c m) (high && not (on (m .level) n))
+      (λ _. put-level (pend-quiet (stay h) n (line-stands c n Exception t)) (flags-set c Line (m .level) n true (λ _. t) (h .level)))
+      (λ _. put-level (stay h) (flags-set c Line (m .level) n high (λ _. t) (h .level)))
+
+  pub line-quiet : (line level : ℕ) → Quiet c m (lineCall c m line level .next)
+  unfolding lineCall
+  line-quiet line level =
+      by-cases Leaves (leb (c .lines) line || ltb 1 level) (λ _. stay h)
+      (λ t. let l = nleb→lt (c .lines) line (not-or-left (leb (c .lines) line) (ltb 1 level) t) in levelled-quiet (16 + line) (eqb level 1) (is-line c (16 + line) (omega arith) (omega arith)))
+
+  pub nmi-quiet : Quiet c m (nmiCall m .next)
+  nmi-quiet = pend-quiet (stay h) 2 tt
+
+  pub tick-quiet : Quiet c m (tickCall m .next)
+  unfolding tickCall
+  tick-quiet =
+      put-timer (by-cases (Quiet c m) (tickOf (m .core .timer) .pends) (λ _. pend-quiet (stay h) 15 tt) (λ _. stay h)) (tick-sound (h .core .timer))
+
+  raised-quiet : (n : ℕ) (s : System) → T (exists c n) → SoundSystem s → Quiet c m (raised (execution m) m n s .next)
+  unfolding raised
+  raised-quiet n s e g =
+      by-cases Leaves (escalates (execution m) m n)
+      (λ _. pend-quiet (put-system (stay h) (forced-sound g)) 3 tt)
+      (λ _. pend-quiet (put-system (stay h) g) n e)
+
+  pub fault-quiet : (b address : ℕ) → Quiet c m (faultCall m b address .next)
+  unfolding faultAt faultException all
+  fault-quiet b address =
+      by-cases (λ o. Leaves (faultRaised (execution m) m o b address)) (isIn b (0 ∷ 1 ∷ [])) (λ t. raise 4 tt (in-all (inside faultstatFields) b (0 ∷ 1 ∷ []) tt t))
+      (λ _. by-cases (λ o. Leaves (faultRaised (execution m) m o b address)) (isIn b (8 ∷ 9 ∷ [])) (λ t. raise 5 tt (in-all (inside faultstatFields) b (8 ∷ 9 ∷ []) tt t))
+      (λ _. by-cases (λ o. Leaves (faultRaised (execution m) m o b address)) (isIn b (16 ∷ 17 ∷ 18 ∷ 19 ∷ 24 ∷ 25 ∷ [])) (λ t. raise 6 tt (in-all (inside faultstatFields) b (16 ∷ 17 ∷ 18 ∷ 19 ∷ 24 ∷ 25 ∷ []) tt t))
+      (λ _. stay h)))
+    where
+      raise : (n : ℕ) → T (exists c n) → T (inside faultstatFields b) → Leaves (faultRaised (execution m) m (At n) b address)
+      raise n e t = by-cases Leaves (isNegative (execution m)) (λ _. stay h) (λ _. raised-quiet n (faultStatus b address (m .core .system)) e (status-sound b address t (h .core .system)))
+
+  pub svc-quiet : Quiet c m (svcCall m .next)
+  unfolding svcAt
+  svc-quiet = by-cases Leaves (isNegative (execution m)) (λ _. stay h) (λ _. raised-quiet 11 (m .core .system) tt (h .core .system))
+
+  pub special-quiet : (which v : ℕ) → Quiet c m (specialCall c m which v .next)
+  unfolding specialAt
+  special-quiet which v =
+      by-cases Leaves (ltb 4 which) (λ _. stay h)
+      (λ _. by-cases Leaves (privileged (m .core))
+      (λ _. put-masks (stay h) (special-kept c which v _ _ (m .core .masks) (h .core .basepri)))
+      (λ _. stay h))

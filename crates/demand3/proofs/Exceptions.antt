@@ -1,0 +1,81 @@
+-- The exceptions that exist are 8 + lines numbers, all below the count of flags: so no more than that many distinct ones are nested.
+use Prim.Native.Nat.{ℕ, zero, suc, _+_, _≤_, _<_}
+use mathlib.Core.Path.{_≡_, refl, ap}
+use mathlib.Core.Logic.{_⊎_, inl, inr}
+use mathlib.Core.List.{List, [], _∷_, _++_, List·Memᴰ, List·Memᴰ·head, List·Memᴰ·tail, Memᴰ·append-left, Memᴰ·append-right}
+use mathlib.Core.Bool.{_||_}
+use native.Mathlib.Nat.{eq-or-lt-of-le}
+use native.Mathlib.Omega.{arith}
+use lib.ListN.{length}
+use lib.Dec.{T, ltb, leb, leb→le, ltb→lt, le→leb, lt→ltb}
+use Rattle.bools.specs.Tests.{both, join, either, or-right}
+use Rattle.priority.specs.Order.{Distinct, pigeonhole}
+use Rattle.rules.specs.declared.Chip.{Chip}
+use Rattle.rules.specs.declared.Place.{Place}
+use Rattle.rules.specs.declared.Place.the-variants.{Exception, Enable, Line}
+use Rattle.rules.specs.Chip.{flagCount, exceptionCount, isIn, systemExceptions, isLine, exists, stands}
+use Rattle.rules.specs.Laws.{isIn-mem, all, in-all}
+
+-- ---- the numbers that exist
+
+lineList : ℕ → List ℕ
+lineList zero = []
+lineList (suc k) = (16 + k) ∷ lineList k
+
+lineList-length : (k : ℕ) → length (lineList k) ≡ k
+unfolding lineList
+lineList-length zero = refl
+lineList-length (suc k) = ap suc (lineList-length k)
+
+lineList-mem : (k n : ℕ) → 16 ≤ n → n < 16 + k → List·Memᴰ n (lineList k)
+unfolding lineList
+lineList-mem zero n l h = absurd (omega arith)
+lineList-mem (suc k) n l h = go (λ q. lineList-mem k n l q) (eq-or-lt-of-le (let g : n ≤ 16 + k = omega arith in g))
+  where
+    go : (n < 16 + k → List·Memᴰ n (lineList k)) → (n ≡ 16 + k) ⊎ (n < 16 + k) → List·Memᴰ n ((16 + k) ∷ lineList k)
+    go below (inl e) = List·Memᴰ·head e
+    go below (inr q) = List·Memᴰ·tail (below q)
+
+everyone : Chip → List ℕ
+everyone c = systemExceptions ++ lineList (c .lines)
+
+everyone-length : (c : Chip) → length (everyone c) ≡ exceptionCount c
+unfolding everyone
+everyone-length c = let e = lineList-length (c .lines) in omega arith
+
+module _ (c : Chip) (n : ℕ) where
+  pub line-bounds : T (isLine c n) → (16 ≤ n) × (n < flagCount c)
+  line-bounds t = let p = both (leb 16 n) (ltb n (flagCount c)) t in (leb→le 16 n (p .0), ltb→lt n (flagCount c) (p .1))
+
+  pub is-line : 16 ≤ n → n < flagCount c → T (isLine c n)
+  is-line l h = join (leb 16 n) (ltb n (flagCount c)) (le→leb 16 n l) (lt→ltb n (flagCount c) h)
+
+  -- a flag of any kind may stand at a line
+  pub line-stands : (place : Place) → T (isLine c n) → T (stands c place n)
+  line-stands Exception t = or-right (isIn n systemExceptions) (isLine c n) t
+  line-stands Enable t = or-right (isIn n (4 ∷ 5 ∷ 6 ∷ [])) (isLine c n) t
+  line-stands Line t = t
+
+  system-or-line : (xs : List ℕ) → T (all (λ k. ltb k 16) xs) → T (isIn n xs || isLine c n) → n < flagCount c
+  system-or-line xs small t = go (either (isIn n xs) (isLine c n) t)
+    where
+      go : T (isIn n xs) ⊎ T (isLine c n) → n < flagCount c
+      go (inl h) = let l = ltb→lt n 16 (in-all (λ k. ltb k 16) n xs small h) in omega arith
+      go (inr h) = line-bounds h .1
+
+  pub stands-below : (place : Place) → T (stands c place n) → n < flagCount c
+  unfolding all
+  stands-below Exception t = system-or-line systemExceptions tt t
+  stands-below Enable t = system-or-line (4 ∷ 5 ∷ 6 ∷ []) tt t
+  stands-below Line t = line-bounds t .1
+
+  exists-mem : T (exists c n) → List·Memᴰ n (everyone c)
+  unfolding everyone
+  exists-mem t = go (either (isIn n systemExceptions) (isLine c n) t)
+    where
+      go : T (isIn n systemExceptions) ⊎ T (isLine c n) → List·Memᴰ n (everyone c)
+      go (inl h) = Memᴰ·append-left (lineList (c .lines)) (isIn-mem n systemExceptions h)
+      go (inr h) = let p = line-bounds h in Memᴰ·append-right systemExceptions (lineList-mem (c .lines) n (p .0) (p .1))
+
+pub fits : (c : Chip) (xs : List ℕ) → Distinct xs → ((n : ℕ) → List·Memᴰ n xs → T (exists c n)) → length xs ≤ exceptionCount c
+fits c xs d h = rw (everyone-length c) at (pigeonhole xs (everyone c) d (λ n m. exists-mem c n (h n m)))

@@ -1,0 +1,217 @@
+-- Reads and writes of registers leave the nest alone and keep the model sound: a word of flags starts at a line, and every store is cut to its kept bits.
+use Prim.Native.Nat.{ℕ, _+_, _-_, _%_, _≤_, _<_}
+use mathlib.Core.List.{List}
+use mathlib.Core.Bool.{Bool, true, false, _||_}
+use native.Mathlib.Omega.{arith}
+use lib.ListN.{set}
+use lib.Dec.{T, ltb, eqb, leb, ltb→lt, le→leb, leb→le}
+use Rattle.bits.specs.Words.{field, bitAt}
+use Rattle.bits.specs.WordLaws.{field-lt, kept-twice}
+use Rattle.bools.specs.Tests.{by-cases, either-way}
+use Rattle.systick.specs.Laws.{read-control-sound, write-control-sound, write-reload-sound, write-current-sound}
+use Rattle.systick.specs.declared.Timer.{Timer}
+use Rattle.systick.specs.Timer.{SoundTimer}
+use Rattle.mpu.specs.declared.MpuRegister.{MpuRegister}
+use Rattle.mpu.specs.declared.MpuRegister.the-variants as mpu
+use Rattle.mpu.specs.Registers.{mpuRegisterAt}
+use Rattle.mpu.specs.Laws.{write-mpu-sound}
+use Rattle.rules.specs.declared.TimerRegister.{TimerRegister}
+use Rattle.rules.specs.declared.TimerRegister.the-variants.{Stctrl, Streload, Stcurrent}
+use Rattle.rules.specs.declared.Bank.{Bank}
+use Rattle.rules.specs.declared.Bank.the-variants.{EnableSet, EnableClear, PendingSet, PendingClear, Active}
+use Rattle.rules.specs.declared.SystemRegister.{SystemRegister}
+use Rattle.rules.specs.declared.SystemRegister.the-variants.{Ictype, Cpuid, Intctrl, Vtable, Apint, Sysctrl, Cfgctrl, Syshndctrl, Faultstat, Hfaultstat, Mmaddr, Faultaddr, Swtrig}
+use Rattle.rules.specs.declared.Register.{Register}
+use Rattle.rules.specs.declared.Register.the-variants as reg
+use Rattle.rules.specs.declared.Chip.{Chip}
+use Rattle.rules.specs.declared.Place.the-variants.{Exception, Enable}
+use Rattle.rules.specs.declared.System.{System}
+use Rattle.rules.specs.Chip.{exists, hasByte}
+use Rattle.rules.specs.Model.{Model, Answer}
+use Rattle.rules.specs.Priorities.{privileged}
+use Rattle.rules.specs.Sound.{Flags, PriorityBytes, SoundSystem, Sound}
+use Rattle.rules.specs.Map.{inBlock, flagWords, byteWords, firstFlag, guardRegister, blockRegister, registerAt, registerOf}
+use Rattle.rules.specs.Reads.{timerRead, afterRead}
+use Rattle.rules.specs.Writes.{timerWritten, clearable, bankWritten, withByte, withBytes, setOrClear, intctrlWritten, syshndctrlWritten, apintWritten, swtrigWritten, storedWritten, systemWritten, wordWritten, byteWritten}
+use Rattle.rules.specs.Registers.{accessRefusal, readCall, freeWrite, written, writeCall}
+use Rattle.demand3.proofs.Words.{sysctrl-twice, cfgctrl-twice, faultstat-without, hfaultstat-without}
+use Rattle.demand3.proofs.Exceptions.{is-line, line-stands}
+use Rattle.demand3.proofs.Parts.{flags-set, flags-put, bytes-set}
+use Rattle.demand3.proofs.Quiet.{Quiet, stay, put-pending, put-enabled, put-priority, put-group, put-timer, put-guard, put-system}
+
+-- ---- a word of flags starts at a line
+
+unfoldable atLine : Register → Bool
+atLine reg.Missing = true
+atLine (reg.Timer r) = true
+atLine (reg.Flags b n) = leb 16 n
+atLine (reg.Priority n) = true
+atLine (reg.System r) = true
+atLine (reg.Guard r) = true
+
+flags-at : (base a : ℕ) → T (leb 16 (firstFlag base a))
+flags-at base a = le→leb 16 (firstFlag base a) (omega arith)
+
+guard-at : (r : MpuRegister) → T (atLine (guardRegister r))
+unfolding atLine
+guard-at mpu.Missing = tt
+guard-at mpu.Kind = tt
+guard-at mpu.Control = tt
+guard-at mpu.Number = tt
+guard-at mpu.Base = tt
+guard-at mpu.Attributes = tt
+
+block-at : (c : Chip) (a : ℕ) → T (atLine (blockRegister c a))
+unfolding atLine blockRegister
+block-at c a =
+    either-way atLine (inBlock 0xE000E100 (flagWords c) a) _ _ (flags-at 0xE000E100 a)
+    (either-way atLine (inBlock 0xE000E180 (flagWords c) a) _ _ (flags-at 0xE000E180 a)
+    (either-way atLine (inBlock 0xE000E200 (flagWords c) a) _ _ (flags-at 0xE000E200 a)
+    (either-way atLine (inBlock 0xE000E280 (flagWords c) a) _ _ (flags-at 0xE000E280 a)
+    (either-way atLine (inBlock 0xE000E300 (flagWords c) a) _ _ (flags-at 0xE000E300 a)
+    (either-way atLine (inBlock 0xE000E400 (byteWords c) a) _ _ tt
+    (either-way atLine (inBlock 0xE000ED90 11 a) _ _ (guard-at (mpuRegisterAt (a - 0xE000ED90))) tt))))))
+
+register-at : (c : Chip) (a : ℕ) → T (atLine (registerAt c a))
+unfolding atLine registerAt
+register-at c a = search (either-way atLine, block-at) depth 30
+
+-- ---- the flags, the bytes and the system block
+
+set-or-clear : (c : Chip) (n : ℕ) (sets clears : Bool) (l : List Bool) → T (exists c n) → Flags c Exception l → Flags c Exception (setOrClear n sets clears l)
+unfolding setOrClear
+set-or-clear c n sets clears l e f =
+    by-cases (Flags c Exception) clears (λ _. flags-set c Exception l n false (λ x. absurd x) f)
+    (λ _. by-cases (Flags c Exception) sets (λ _. flags-set c Exception l n true (λ _. e) f) (λ _. f))
+
+intctrl-flags : (c : Chip) (v : ℕ) (l : List Bool) → Flags c Exception l → Flags c Exception (intctrlWritten v l)
+unfolding intctrlWritten
+intctrl-flags c v l f = set-or-clear c 15 _ _ _ tt (set-or-clear c 14 _ _ _ tt (set-or-clear c 2 _ _ l tt f))
+
+syshndctrl-flags : (c : Chip) (v : ℕ) (l : List Bool) → Flags c Enable l → Flags c Enable (syshndctrlWritten v l)
+unfolding syshndctrlWritten
+syshndctrl-flags c v l f =
+    let a = flags-set c Enable l 4 (bitAt 16 v) (λ _. tt) f in
+    let b = flags-set c Enable (set l 4 (bitAt 16 v)) 5 (bitAt 17 v) (λ _. tt) a in
+    flags-set c Enable (set (set l 4 (bitAt 16 v)) 5 (bitAt 17 v)) 6 (bitAt 18 v) (λ _. tt) b
+
+swtrig-flags : (c : Chip) (v : ℕ) (l : List Bool) → Flags c Exception l → Flags c Exception (swtrigWritten c v l)
+unfolding swtrigWritten
+swtrig-flags c v l f =
+    by-cases (Flags c Exception) (ltb (field 8 0 v) (c .lines))
+    (λ t. flags-set c Exception l (16 + field 8 0 v) true (λ _. line t) f)
+    (λ _. f)
+  where
+    line : T (ltb (field 8 0 v) (c .lines)) → T (exists c (16 + field 8 0 v))
+    line t =
+        let h = ltb→lt (field 8 0 v) (c .lines) t in
+        line-stands c (16 + field 8 0 v) Exception (is-line c (16 + field 8 0 v) (omega arith) (omega arith))
+
+byte-written : (c : Chip) (n b : ℕ) (l : List ℕ) → PriorityBytes c l → PriorityBytes c (withByte c n b l)
+unfolding withByte
+byte-written c n b l h = by-cases (PriorityBytes c) (hasByte c n) (λ t. bytes-set c l n b t h) (λ _. h)
+
+bytes-written : (c : Chip) (n v : ℕ) (l : List ℕ) → PriorityBytes c l → PriorityBytes c (withBytes c n v l)
+unfolding withBytes
+bytes-written c n v l h = byte-written c _ _ _ (byte-written c _ _ _ (byte-written c _ _ _ (byte-written c _ _ _ h)))
+
+group-below : (v group : ℕ) → group < 8 → apintWritten v group < 8
+unfolding apintWritten
+group-below v group h = by-cases (λ (p : ℕ). p < 8) (eqb (field 31 16 v) 0x05FA) (λ _. field-lt 10 8 v) (λ _. h)
+
+stored-sound : (r : SystemRegister) (v : ℕ) (s : System) → SoundSystem s → SoundSystem (storedWritten r v s)
+unfolding storedWritten
+stored-sound Vtable v s h = record { vtable = kept-twice 29 9 v; sysctrl = h .sysctrl; cfgctrl = h .cfgctrl; faultstat = h .faultstat; hfaultstat = h .hfaultstat }
+stored-sound Sysctrl v s h = record { vtable = h .vtable; sysctrl = sysctrl-twice v; cfgctrl = h .cfgctrl; faultstat = h .faultstat; hfaultstat = h .hfaultstat }
+stored-sound Cfgctrl v s h = record { vtable = h .vtable; sysctrl = h .sysctrl; cfgctrl = cfgctrl-twice v; faultstat = h .faultstat; hfaultstat = h .hfaultstat }
+stored-sound Faultstat v s h = record { vtable = h .vtable; sysctrl = h .sysctrl; cfgctrl = h .cfgctrl; faultstat = faultstat-without (s .faultstat) v (h .faultstat); hfaultstat = h .hfaultstat }
+stored-sound Hfaultstat v s h = record { vtable = h .vtable; sysctrl = h .sysctrl; cfgctrl = h .cfgctrl; faultstat = h .faultstat; hfaultstat = hfaultstat-without (s .hfaultstat) v (h .hfaultstat) }
+stored-sound Ictype v s h = h
+stored-sound Cpuid v s h = h
+stored-sound Intctrl v s h = h
+stored-sound Apint v s h = h
+stored-sound Syshndctrl v s h = h
+stored-sound Mmaddr v s h = h
+stored-sound Faultaddr v s h = h
+stored-sound Swtrig v s h = h
+
+timer-sound : (r : TimerRegister) (v : ℕ) (t : Timer) → SoundTimer t → SoundTimer (timerWritten r v t)
+unfolding timerWritten
+timer-sound Stctrl v t h = write-control-sound v h
+timer-sound Streload v t h = write-reload-sound v h
+timer-sound Stcurrent v t h = write-current-sound v h
+
+timer-read-sound : (r : TimerRegister) (t : Timer) → SoundTimer t → SoundTimer (timerRead r t)
+unfolding timerRead
+timer-read-sound Stctrl t h = read-control-sound h
+timer-read-sound Streload t h = h
+timer-read-sound Stcurrent t h = h
+
+-- ---- the registers
+
+module _ {c : Chip} {m : Model} (h : Sound c m) where
+  bank-quiet : (b : Bank) (n v : ℕ) → 16 ≤ n → Quiet c m (bankWritten b n v m)
+  unfolding bankWritten
+  bank-quiet EnableSet n v l = put-enabled (stay h) (flags-put c Enable true 32 (m .enabled) n v l (h .enabled))
+  bank-quiet EnableClear n v l = put-enabled (stay h) (flags-put c Enable false 32 (m .enabled) n v l (h .enabled))
+  bank-quiet PendingSet n v l = put-pending (stay h) (flags-put c Exception true 32 (m .pending) n v l (h .pending))
+  bank-quiet PendingClear n v l = put-pending (stay h) (flags-put c Exception false 32 (m .pending) n (clearable (m .level) (m .active) n v) l (h .pending))
+  bank-quiet Active n v l = stay h
+
+  system-quiet : (r : SystemRegister) (v : ℕ) → Quiet c m (systemWritten c r v m)
+  unfolding systemWritten
+  system-quiet Intctrl v = put-pending (stay h) (intctrl-flags c v (m .pending) (h .pending))
+  system-quiet Apint v = put-group (stay h) (group-below v (m .core .group) (h .core .group))
+  system-quiet Syshndctrl v = put-enabled (stay h) (syshndctrl-flags c v (m .enabled) (h .enabled))
+  system-quiet Swtrig v = put-pending (stay h) (swtrig-flags c v (m .pending) (h .pending))
+  system-quiet Vtable v = put-system (stay h) (stored-sound Vtable v (m .core .system) (h .core .system))
+  system-quiet Sysctrl v = put-system (stay h) (stored-sound Sysctrl v (m .core .system) (h .core .system))
+  system-quiet Cfgctrl v = put-system (stay h) (stored-sound Cfgctrl v (m .core .system) (h .core .system))
+  system-quiet Faultstat v = put-system (stay h) (stored-sound Faultstat v (m .core .system) (h .core .system))
+  system-quiet Hfaultstat v = put-system (stay h) (stored-sound Hfaultstat v (m .core .system) (h .core .system))
+  system-quiet Ictype v = stay h
+  system-quiet Cpuid v = stay h
+  system-quiet Mmaddr v = stay h
+  system-quiet Faultaddr v = stay h
+
+  word-quiet : (r : Register) (v : ℕ) → T (atLine r) → Quiet c m (wordWritten c r v m)
+  unfolding wordWritten atLine
+  word-quiet reg.Missing v t = stay h
+  word-quiet (reg.Timer r) v t = put-timer (stay h) (timer-sound r v (m .core .timer) (h .core .timer))
+  word-quiet (reg.Flags b n) v t = bank-quiet b n v (leb→le 16 n t)
+  word-quiet (reg.Priority n) v t = put-priority (stay h) (bytes-written c n v (m .priority) (h .priority))
+  word-quiet (reg.System r) v t = system-quiet r v
+  word-quiet (reg.Guard r) v t = put-guard (stay h) (write-mpu-sound r v (m .core .guard) (h .core .guard))
+
+  byte-quiet : (r : Register) (lane v : ℕ) → Quiet c m (byteWritten c r lane v m)
+  unfolding byteWritten
+  byte-quiet (reg.Priority n) lane v = put-priority (stay h) (byte-written c (n + lane) v (m .priority) (h .priority))
+  byte-quiet reg.Missing lane v = stay h
+  byte-quiet (reg.Timer r) lane v = stay h
+  byte-quiet (reg.Flags b n) lane v = stay h
+  byte-quiet (reg.System r) lane v = stay h
+  byte-quiet (reg.Guard r) lane v = stay h
+
+  pub written-quiet : (w a v : ℕ) → Quiet c m (written c w a v m)
+  unfolding written
+  written-quiet w a v =
+      by-cases (Quiet c m) (eqb w 4) (λ _. word-quiet (registerOf c a) v (register-at c (a - a % 4))) (λ _. byte-quiet (registerOf c a) (a % 4) v)
+
+  pub read-quiet : (r : Register) → Quiet c m (afterRead r m)
+  unfolding afterRead
+  read-quiet reg.Missing = stay h
+  read-quiet (reg.Timer r) = put-timer (stay h) (timer-read-sound r (m .core .timer) (h .core .timer))
+  read-quiet (reg.Flags b n) = stay h
+  read-quiet (reg.Priority n) = stay h
+  read-quiet (reg.System r) = stay h
+  read-quiet (reg.Guard r) = stay h
+
+  pub read-call-quiet : (w a : ℕ) → Quiet c m (readCall c m w a .next)
+  unfolding readCall
+  read-call-quiet w a =
+      by-cases (λ (x : Answer). Quiet c m (x .next)) (eqb (accessRefusal (registerOf c a) (privileged (m .core)) w a) 0) (λ _. read-quiet (registerOf c a)) (λ _. stay h)
+
+  pub write-call-quiet : (w a v : ℕ) → Quiet c m (writeCall c m w a v .next)
+  unfolding writeCall
+  write-call-quiet w a v =
+      by-cases (λ (x : Answer). Quiet c m (x .next)) (eqb (accessRefusal (registerOf c a) (privileged (m .core) || freeWrite (m .core) w a) w a) 0) (λ _. written-quiet w a v) (λ _. stay h)

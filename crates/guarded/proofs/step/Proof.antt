@@ -1,0 +1,107 @@
+-- The test of refusal 16 decides between the event and the refusal; a sound state meets what an event asks.
+use mathlib.Core.Path.{_≡_, sym, _∙_}
+use mathlib.Core.Bool.{true}
+use native.Mathlib.Omega.{arith}
+use mir.Facts.{toZ-ofZ}
+use borrow.Author.Needs.{needs}
+use borrow.Author.Tests.{not-true, not-false}
+use Rattle.rules.specs.Lent.{modelOf}
+use Rattle.rules.specs.Model.{Model}
+use Rattle.rules.specs.Sound.{isSound, Sound}
+use Rattle.demand3.proofs.Check.{depth-fits}
+use Rattle.demand3.proofs.Nesting.{execution-nest}
+use Rattle.guarded.proofs.Laws.{tested, passes, refuses}
+use Rattle.guarded.proofs.step.Statement.{statement}
+use Rattle.guarded.proofs.step.Tie as tie
+
+-- where the test is passed: the entry of the call, its model, and that it is sound
+abbrev begun : tie.Else1 → tie.Start
+begun c = c .before .before .before .before .before .before .before .before .before .before .before .before .before .before
+
+abbrev model : tie.Start → Model
+model s = modelOf (s .args .pending .now) (s .args .active .now) (s .args .enabled .now) (s .args .level .now) (s .args .priority .now) (s .args .nest .now) (s .args .core)
+
+passed : (c : tie.Else1) → isSound (begun c .args .chip) (model (begun c)) ≡ true
+passed c = sym (c .before .is-sound .ensures) ∙ not-false _ (c .if1 .left)
+
+sound : (c : tie.Else1) → Sound (begun c .args .chip) (model (begun c))
+sound c = tested _ _ (passed c)
+
+is-sound-requires : tie.Need-is-sound-requires
+is-sound-requires c κs = search needs
+
+refused-requires : tie.Need-refused-requires
+refused-requires c κs = search needs
+
+same-length : tie.Need-same-length
+same-length c = search needs
+
+same-length-2 : tie.Need-same-length-2
+same-length-2 c = search needs
+
+same-length-3 : tie.Need-same-length-3
+same-length-3 c = search needs
+
+same-length-4 : tie.Need-same-length-4
+same-length-4 c = search needs
+
+same-length-5 : tie.Need-same-length-5
+same-length-5 c = search needs
+
+same-length-6 : tie.Need-same-length-6
+same-length-6 c = search needs
+
+returns : tie.Need-returns
+returns c = rw (c .refused .ensures) (refuses _ _ _ (sym (c .before .before .is-sound .ensures) ∙ not-true _ (c .before .if1 .taken)))
+
+execution-requires : tie.Need-execution-requires
+execution-requires c κs = let h = sound (c .before .before) in let d = depth-fits h in let l = h .places .size in omega arith
+
+act-requires : tie.Need-act-requires
+act-requires c κs =
+    let e = c .before .before .before .before .before .before .before .before .before in
+    record { lines = begun e .pre .lines; sound = sound e; priority = toZ-ofZ (search needs) ∙ c .before .before .before .before .before .before .execution .ensures ∙ execution-nest (sound e) }
+
+same-length-7 : tie.Need-same-length-7
+same-length-7 c = search needs
+
+same-length-8 : tie.Need-same-length-8
+same-length-8 c = search needs
+
+same-length-9 : tie.Need-same-length-9
+same-length-9 c = search needs
+
+same-length-10 : tie.Need-same-length-10
+same-length-10 c = search needs
+
+same-length-11 : tie.Need-same-length-11
+same-length-11 c = search needs
+
+same-length-12 : tie.Need-same-length-12
+same-length-12 c = search needs
+
+returns-2 : tie.Need-returns-2
+returns-2 c = c .before .before .before .before .before .before .before .before .before .before .before .before .act .ensures ∙ passes _ _ _ (passed (c .before .before .before .before .before .before .before .before .before .before .before .before .before .before .before .before .before .before .before .before .before .before))
+
+pub step-spec : {M : Type 1} → statement M
+step-spec =
+    tie.close
+    (tie.spec
+    is-sound-requires
+    refused-requires
+    same-length
+    same-length-2
+    same-length-3
+    same-length-4
+    same-length-5
+    same-length-6
+    returns
+    execution-requires
+    act-requires
+    same-length-7
+    same-length-8
+    same-length-9
+    same-length-10
+    same-length-11
+    same-length-12
+    returns-2)

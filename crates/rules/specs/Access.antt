@@ -1,0 +1,30 @@
+-- Document 01, "Access verdicts", as a call.
+use Prim.Native.Nat.{ℕ, _%_}
+use mathlib.Core.Bool.{Bool, not, cond}
+use lib.Dec.{ltb, eqb}
+use lib.IntN.{ℤ}
+use Rattle.verdicts.specs.declared.Access.{Access}
+use Rattle.verdicts.specs.declared.Access.the-variants as access
+use Rattle.verdicts.specs.Verdict.{verdict}
+use Rattle.rules.specs.Model.{Model, Answer, refuse, done}
+use Rattle.rules.specs.Priorities.{execution, isNegative, privileged}
+use Rattle.rules.specs.Registers.{isWidth}
+
+-- "Kinds: 0 read, 1 write, 2 fetch"
+unfoldable pub purposeOf : ℕ → Access
+purposeOf k = cond (eqb k 0) access.Read (cond (eqb k 1) access.Write access.Fetch)
+
+-- "width not 1, 2 or 4; a fetch not 2"
+unfoldable pub fitsAccess : ℕ → ℕ → Bool
+fitsAccess k w = cond (eqb k 2) (eqb w 2) (isWidth w)
+
+-- "The state stays."
+unfoldable pub accessAt : ℤ → Model → ℕ → ℕ → ℕ → Answer
+accessAt e m k w a =
+    cond (ltb 2 k) (refuse 6 m)
+    (cond (not (fitsAccess k w)) (refuse 1 m)
+    (cond (not (eqb (a % w) 0)) (refuse 2 m)
+    (done (verdict (m .core .guard) (purposeOf k) a (privileged (m .core)) (isNegative e)) m)))
+
+abbrev pub accessCall : Model → ℕ → ℕ → ℕ → Answer
+accessCall m k w a = accessAt (execution m) m k w a

@@ -1,0 +1,106 @@
+-- A course that cannot go on is handed back; the test of the state is the one that lets the loop act.
+use mathlib.Core.Path.{sym, _∙_}
+use mathlib.Core.Logic.{inl}
+use native.Mathlib.Omega.{arith}
+use Rattle.running.proofs.Promise.{usable-of, ran-unmoved, ran-held}
+use borrow.Author.Needs.{needs}
+use Rattle.running.proofs.run_some.Statement.{statement}
+use Rattle.running.proofs.run_some.Tie as tie
+
+unmoved-requires : tie.Need-unmoved-requires
+unmoved-requires c κs = search needs
+
+returns : tie.Need-returns
+returns c = rw (c .unmoved .ensures) (ran-unmoved _ _ _ _ _ (λ _. inl (c .before .if1 .taken)))
+
+run-long-requires : tie.Need-run-long-requires
+run-long-requires c κs = search needs
+
+same-length : tie.Need-same-length
+same-length c = search needs
+
+returns-2 : tie.Need-returns-2
+returns-2 c = c .before .before .run-long .ensures _ _ _ _ _ _ _
+
+is-usable-requires : tie.Need-is-usable-requires
+is-usable-requires c κs = c .before .before .before .before .before .before .before .before .before .before .before .before .before .before .before .before .pre
+
+run-events-requires : tie.Need-run-events-requires
+run-events-requires c κs =
+    record { fits = c .before .before .before .before .before .before .before .before .before .before .before .before .before .before .before .before .before .before .before .before .before .before .before .before .before .pre; short = omega (arith, c .before .before .before .before .before .before .before .before .before .before .before .before .before .before .before .if2 .left); going = c .before .before .before .before .before .before .before .before .before .before .before .before .before .before .before .before .if1 .left; usable = usable-of _ _ _ (sym (c .before .before .before .before .before .before .before .before .is-usable .ensures) ∙ c .before .before .before .before .before .before .before .if3 .taken) }
+
+same-length-2 : tie.Need-same-length-2
+same-length-2 c = search needs
+
+same-length-3 : tie.Need-same-length-3
+same-length-3 c = search needs
+
+same-length-4 : tie.Need-same-length-4
+same-length-4 c = search needs
+
+same-length-5 : tie.Need-same-length-5
+same-length-5 c = search needs
+
+same-length-6 : tie.Need-same-length-6
+same-length-6 c = search needs
+
+same-length-7 : tie.Need-same-length-7
+same-length-7 c = search needs
+
+same-length-8 : tie.Need-same-length-8
+same-length-8 c = search needs
+
+returns-3 : tie.Need-returns-3
+returns-3 c = c .before .before .before .before .before .before .before .before .before .before .before .before .before .before .run-events .ensures
+
+unmoved-requires-2 : tie.Need-unmoved-requires-2
+unmoved-requires-2 c κs = search needs
+
+same-length-9 : tie.Need-same-length-9
+same-length-9 c = search needs
+
+same-length-10 : tie.Need-same-length-10
+same-length-10 c = search needs
+
+same-length-11 : tie.Need-same-length-11
+same-length-11 c = search needs
+
+same-length-12 : tie.Need-same-length-12
+same-length-12 c = search needs
+
+same-length-13 : tie.Need-same-length-13
+same-length-13 c = search needs
+
+same-length-14 : tie.Need-same-length-14
+same-length-14 c = search needs
+
+returns-4 : tie.Need-returns-4
+returns-4 c = rw (c .unmoved2 .ensures) (ran-held _ _ _ _ _ (sym (c .before .before .is-usable .ensures) ∙ c .before .if3 .left))
+
+pub run-some-spec : {M : Type 1} → statement M
+run-some-spec =
+    tie.close
+    (tie.spec
+    unmoved-requires
+    returns
+    run-long-requires
+    same-length
+    returns-2
+    is-usable-requires
+    run-events-requires
+    same-length-2
+    same-length-3
+    same-length-4
+    same-length-5
+    same-length-6
+    same-length-7
+    same-length-8
+    returns-3
+    unmoved-requires-2
+    same-length-9
+    same-length-10
+    same-length-11
+    same-length-12
+    same-length-13
+    same-length-14
+    returns-4)

@@ -1,0 +1,24 @@
+-- Scripts with no event that runs: the empty one prints nothing, the others their closing line alone.
+use mathlib.Core.Path.{_≡_, refl}
+use mathlib.Core.List.{[], _∷_, _++_}
+use Rattle.decimal.specs.Decimal.{digitsUpTo, digits, brokenText, scriptWord, atWord, newline}
+use Rattle.script.specs.Event.{arity}
+use Rattle.numbers.specs.Number.{joined, groupsAt, numberAt}
+use Rattle.script.specs.Reading.{numbersAt, eventOf, withArguments, withKind, readEvent}
+use Rattle.script.specs.Script.{followed, scriptFrom, scriptOf}
+use Rattle.rules.specs.Chip.{chip55}
+use Rattle.text.specs.Text.{linesOf, endText, scriptText, textOf}
+
+empty : textOf chip55 [] ≡ []
+unfolding textOf scriptText linesOf endText scriptOf scriptFrom
+empty = refl
+
+-- `script 14 at 0`
+no-kind : textOf chip55 (12 ∷ []) ≡ scriptWord ++ (49 ∷ 52 ∷ []) ++ atWord ++ (48 ∷ newline ∷ [])
+unfolding textOf scriptText linesOf endText scriptOf scriptFrom followed readEvent withKind withArguments eventOf arity numbersAt numberAt groupsAt brokenText digits digitsUpTo
+no-kind = refl
+
+-- `script 13 at 0`
+cut-short : textOf chip55 (0x80 ∷ []) ≡ scriptWord ++ (49 ∷ 51 ∷ []) ++ atWord ++ (48 ∷ newline ∷ [])
+unfolding textOf scriptText linesOf endText scriptOf scriptFrom followed readEvent withKind numberAt groupsAt joined brokenText digits digitsUpTo
+cut-short = refl
