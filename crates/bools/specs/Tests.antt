@@ -85,6 +85,17 @@ pub and-false-of : (a b : Bool) → b ≡ false → (a && b) ≡ false
 and-false-of true b e = e
 and-false-of false b e = refl
 
+-- a test that another one asks for adds nothing to it
+pub and-needed : (a b : Bool) → (T b → T a) → a && b ≡ b
+and-needed true b f = refl
+and-needed false true f = absurd (f tt)
+and-needed false false f = refl
+
+pub not-and-not : (a b : Bool) → not (a && not b) ≡ not a || b
+not-and-not true true = refl
+not-and-not true false = refl
+not-and-not false b = refl
+
 -- ---- a choice by a test
 
 pub by-cases {ℓ} : {A : Type ℓ} (P : A → Type 0) (b : Bool) {x y : A} → (T b → P x) → (T (not b) → P y) → P (cond b x y)
@@ -102,3 +113,16 @@ taken b x y e = rw e refl
 
 pub left : {A : Type 0} (b : Bool) (x y : A) → b ≡ false → y ≡ cond b x y
 left b x y e = rw e refl
+
+-- a flag set or cleared by a test
+pub set-by : (b x : Bool) → cond b true x ≡ x || b
+set-by true true = refl
+set-by true false = refl
+set-by false true = refl
+set-by false false = refl
+
+pub clear-by : (b x : Bool) → cond b false x ≡ x && not b
+clear-by true true = refl
+clear-by true false = refl
+clear-by false true = refl
+clear-by false false = refl

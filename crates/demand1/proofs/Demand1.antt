@@ -9,7 +9,7 @@ use lib.Dec.{T, ltb, leb, eqb, T-not}
 use lib.IntN.{ℤ}
 use Rattle.priority.specs.declared.Found.{Found}
 use Rattle.priority.specs.declared.Found.the-variants.{At, Nothing}
-use Rattle.bools.specs.Tests.{by-cases, either, is-false}
+use Rattle.bools.specs.Tests.{is-false, either, or-right, by-cases}
 use Rattle.script.specs.declared.Event.{Event}
 use Rattle.script.specs.declared.Event.the-variants as event
 use Rattle.script.specs.Event.{accessNumber}
@@ -169,13 +169,9 @@ module _ (c : Chip) (m : Model) where
   unfolding guarded
   events e = by-cases (λ a. (a .refusal ≡ 0) ⊎ Refused e m a) (isSound c m) (λ _. weak (act-fine e)) (λ _. inr (record { number = tt; nothing = refl }))
     where
-      later : (b d : Bool) → T d → T (b || d)
-      later true d u = tt
-      later false d u = u
-
       weak : {a : Answer} → Fine e a → (a .refusal ≡ 0) ⊎ Refused e m a
       weak (inl z) = inl z
-      weak {a} (inr r) = inr (record { number = later (eqb (a .refusal) 16) (isIn (a .refusal) (ownRefusals e)) (r .number); nothing = r .nothing })
+      weak {a} (inr r) = inr (record { number = or-right (eqb (a .refusal) 16) (isIn (a .refusal) (ownRefusals e)) (r .number); nothing = r .nothing })
 
   unsound : (e : Event) → (stepOf c m e .refusal ≡ 16) ↔ (isSound c m ≡ false)
   unfolding guarded

@@ -10,7 +10,7 @@ use lib.Dec.{T, ltb, leb, eqb, ltb→lt, leb→le}
 use borrow.Author.Tests.{ltb-true, ltb-false, leb-true, leb-false, eqb-true, eqb-false}
 use Rattle.bits.specs.Words.{bit, field, kept, bitAt, withBit, without}
 use Rattle.bits.specs.WordLaws.{bit-of-digit, bit-low, half-bit, field-lt, with-bit-other, without-bit, without-lt}
-use Rattle.bools.specs.Tests.{both}
+use Rattle.bools.specs.Tests.{both, and-needed}
 use Rattle.rules.specs.SystemBlock.{keptSysctrl, keptCfgctrl, keptFaultstat, keptHfaultstat}
 
 -- ---- a word is its bits
@@ -122,12 +122,7 @@ module _ (k : ℕ) (fs : List (ℕ × ℕ)) (fall : T (falling k fs)) where
   only-kept x = record { each = λ i t. both (inside fs i) (bitAt i x) (subst T (kept-in k fs x fall .bits i) t) .0 }
 
   kept-only : (x : ℕ) → Only fs x → keptIn fs x ≡ x
-  kept-only x h = same-bits (keptIn fs x) x (λ i. kept-in k fs x fall .bits i ∙ whole (inside fs i) (bitAt i x) (h .each i))
-    where
-      whole : (a b : Bool) → (T b → T a) → a && b ≡ b
-      whole true b f = refl
-      whole false true f = absurd (f tt)
-      whole false false f = refl
+  kept-only x h = same-bits (keptIn fs x) x (λ i. kept-in k fs x fall .bits i ∙ and-needed (inside fs i) (bitAt i x) (h .each i))
 
   -- whatever is left of a kept word with a bit of the fields put into it, or without the bits of another
   kept-with : (j : ℕ) (b : Bool) (x : ℕ) → T (inside fs j) → keptIn fs x ≡ x → keptIn fs (withBit j b x) ≡ withBit j b x

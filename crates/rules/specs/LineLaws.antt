@@ -11,7 +11,7 @@ use Rattle.bits.specs.Words.{bitAt, without}
 use Rattle.bits.specs.WordLaws.{without-bit}
 use Rattle.flag_words.specs.Flags.{on, flagsWord, putFlags}
 use Rattle.flag_words.specs.FlagLaws.{word-bit, put-before, put-past, put-at}
-use Rattle.bools.specs.Tests.{by-cases}
+use Rattle.bools.specs.Tests.{not-and-not, by-cases, set-by, clear-by}
 use Rattle.rules.specs.declared.Bank.the-variants.{EnableSet, EnableClear, PendingSet, PendingClear}
 use Rattle.rules.specs.declared.Register.the-variants.{Flags}
 use Rattle.rules.specs.declared.Chip.{Chip}
@@ -36,24 +36,6 @@ put-changed value k flags w new e =
       below = λ n h. put-before value 32 flags (16 + 32 * k) w n h;
       above = λ n h. put-past value 32 flags (16 + 32 * k) w n h;
     }
-
-set-by : (b x : Bool) → cond b true x ≡ x || b
-set-by true true = refl
-set-by true false = refl
-set-by false true = refl
-set-by false false = refl
-
-clear-by : (b x : Bool) → cond b false x ≡ x && not b
-clear-by true true = refl
-clear-by true false = refl
-clear-by false true = refl
-clear-by false false = refl
-
-low-or-active : (level active : Bool) → not (level && not active) ≡ not level || active
-low-or-active true true = refl
-low-or-active true false = refl
-low-or-active false true = refl
-low-or-active false false = refl
 
 -- ---- their registers
 
@@ -180,7 +162,7 @@ module _ (c : Chip) (few : c .lines ≤ 1024) (k : ℕ) (there : k < flagWords c
           without-bit 32 (flagsWord (m .level) (16 + 32 * k)) (flagsWord (m .active) (16 + 32 * k)) j h,
           word-bit (m .level) (16 + 32 * k) 32 j h,
           word-bit (m .active) (16 + 32 * k) 32 j h,
-        ) (ap (λ (b : Bool). bitAt j v && b) (low-or-active (on (m .level) (line j)) (on (m .active) (line j))))
+        ) (ap (λ (b : Bool). bitAt j v && b) (not-and-not (on (m .level) (line j)) (on (m .active) (line j))))
 
     -- E280, "pending .. clear": cleared exactly where the bit is 1 and the line is low or active
     pub pending-clear : Changed k (m .pending) (after 0xE000E280 .pending) (λ j. on (m .pending) (line j) && not (bitAt j v && (not (on (m .level) (line j)) || on (m .active) (line j))))

@@ -1,32 +1,20 @@
--- A script is its next event and the script after it, so its text is the line of that event and the text of the rest.
+-- A script from an offset on is its next event and the script after that, or no event and how it ends.
 use Prim.Native.Nat.{ℕ, zero, suc, _+_, _≤_, _<_}
-use mathlib.Core.Path.{_≡_, refl, sym, _∙_}
-use mathlib.Core.List.{List, [], _∷_, _++_, append-assoc}
+use mathlib.Core.Path.{_≡_, refl, sym, ap, _∙_}
+use mathlib.Core.List.{List, [], _∷_}
+use mathlib.Core.Bool.{Bool, true, false}
 use native.Mathlib.Omega.{arith}
 use lib.ListN.{length}
-use lib.IntN.{ℤ}
-use borrow.Author.Tests.{lt-ltb, le-ltb}
-use Rattle.decimal.specs.Decimal.{lineText, brokenText}
+use lib.Dec.{ltb, leb}
+use borrow.Author.Tests.{lt-ltb, le-ltb, ltb-true, ltb-false, leb-true, leb-false}
 use Rattle.script.specs.declared.Event.{Event}
 use Rattle.script.specs.declared.ReadEvent.{ReadEvent}
 use Rattle.script.specs.declared.ReadEvent.the-variants.{Found, Refused}
 use Rattle.script.specs.EventLaws.{event-read}
 use Rattle.numbers.specs.NumberLaws.{Bytes}
 use Rattle.script.specs.Reading.{readEvent}
-use Rattle.script.specs.Script.{whole, brokenBy, followed, scriptFrom}
-use Rattle.rules.specs.declared.Chip.{Chip}
-use Rattle.rules.specs.Model.{Model, Answer, stack, top}
-use Rattle.rules.specs.Priorities.{execution}
-use Rattle.rules.specs.Sound.{Sound}
-use Rattle.rules.specs.Step.{actOf}
-use Rattle.demand3.proofs.Check.{step-sound}
-use Rattle.text.specs.Text.{lineOf, linesOf, endText, scriptText}
-use Rattle.running.specs.Running.{scriptAt, restText}
-
--- the line of an answer, with what the code prints as its top and its execution priority
-pub line-of : (number : ℕ) (a b : Answer) → a ≡ b → (t : ℕ) → t ≡ top (stack (a .next)) → (x : ℤ) → x ≡ execution (a .next) → lineText number (a .refusal) (a .value) t x ≡ lineOf number b
-unfolding lineOf
-line-of number a b e t p x q = rw (p, q, e)
+use Rattle.script.specs.Script.{Script, whole, brokenBy, followed, scriptFrom}
+use Rattle.running.specs.Running.{scriptAt}
 
 module _ (script : List ℕ) where
   nothing-left : (at count : ℕ) → length script ≤ at → scriptFrom script at count ≡ whole []
@@ -55,10 +43,10 @@ module _ (script : List ℕ) (short : length script ≤ 65536) where
   unfolding scriptFrom
   unrolled at n e h = at-short at ∙ rw e (simp (lt-ltb at (length script) h))
 
-  script-end : (at : ℕ) → length script ≤ at → scriptAt script at ≡ whole []
+  pub script-end : (at : ℕ) → length script ≤ at → scriptAt script at ≡ whole []
   script-end at h = at-short at ∙ nothing-left script at (length script) h
 
-  script-refused : (at number : ℕ) → at < length script → readEvent script at ≡ Refused number → scriptAt script at ≡ record { events = []; end = brokenBy number at }
+  pub script-refused : (at number : ℕ) → at < length script → readEvent script at ≡ Refused number → scriptAt script at ≡ record { events = []; end = brokenBy number at }
   unfolding followed
   script-refused at number h p = go (length script) refl
     where
@@ -66,7 +54,7 @@ module _ (script : List ℕ) (short : length script ≤ 65536) where
       go zero e = let z : ⊥ = omega arith in absurd z
       go (suc n) e = unrolled at n e h ∙ rw p
 
-  script-found : (small : Bytes script) (at : ℕ) (event : Event) (next : ℕ) → readEvent script at ≡ Found event next → scriptAt script at ≡ record { events = event ∷ scriptAt script next .events; end = scriptAt script next .end }
+  pub script-found : (small : Bytes script) (at : ℕ) (event : Event) (next : ℕ) → readEvent script at ≡ Found event next → scriptAt script at ≡ record { events = event ∷ scriptAt script next .events; end = scriptAt script next .end }
   unfolding followed
   script-found small at event next p = go (length script) refl
     where
@@ -79,19 +67,43 @@ module _ (script : List ℕ) (short : length script ≤ 65536) where
           let rest : scriptAt script next ≡ scriptFrom script next n = at-short next ∙ enough script small (length script) n next (omega arith) (omega arith) in
           unrolled at n e (omega arith) ∙ rw (p, rest)
 
-  module _ (c : Chip) (m : Model) (at events : ℕ) where
-    pub rest-end : length script ≤ at → restText c script m at events ≡ []
-    unfolding restText scriptText linesOf endText
-    rest-end h = rw (script-end at h)
+-- a script that is too long
+pub script-long : (script : List ℕ) (at : ℕ) → 65536 < length script → scriptAt script at ≡ record { events = []; end = brokenBy 15 65536 }
+unfolding scriptAt
+script-long script at h = simp (lt-ltb 65536 (length script) h)
 
-    pub rest-refused : (number : ℕ) → at < length script → readEvent script at ≡ Refused number → restText c script m at events ≡ brokenText number at
-    unfolding restText scriptText linesOf endText
-    rest-refused number h p = rw (script-refused at number h p)
+-- ---- what stands at an offset
 
-    pub rest-found : (small : Bytes script) (e : Event) (next : ℕ) → Sound c m → readEvent script at ≡ Found e next → restText c script m at events ≡ lineOf (suc events) (actOf c m e) ++ restText c script (actOf c m e .next) next (suc events)
-    unfolding restText scriptText linesOf
-    rest-found small e next s p = rw (script-found small at e next p, step-sound s e, append-assoc)
+pub record One (script : List ℕ) (at : ℕ) (e : Event) (next : ℕ) : Type 0 where
+  pub found : readEvent script at ≡ Found e next
+  pub forward : at < next
+  pub inside : next ≤ length script
+  pub rest : scriptAt script at ≡ record { events = e ∷ scriptAt script next .events; end = scriptAt script next .end }
 
-pub rest-long : (c : Chip) (script : List ℕ) (m : Model) (at events : ℕ) → 65536 < length script → restText c script m at events ≡ brokenText 15 65536
-unfolding restText scriptText linesOf endText scriptAt
-rest-long c script m at events h = simp (lt-ltb 65536 (length script) h)
+pub one-of : (script : List ℕ) → length script ≤ 65536 → Bytes script → (at : ℕ) (e : Event) (next : ℕ) → readEvent script at ≡ Found e next → One script at e next
+one-of script short small at e next p =
+    let r = event-read script at e next small p in
+    let i = r .inside in
+    record { found = p; forward = r .forward; inside = omega arith; rest = script-found script short small at e next p }
+
+pub data View (script : List ℕ) (at : ℕ) : Type 0 where
+  over : scriptAt script at .events ≡ [] → View script at
+  one : (e : Event) (next : ℕ) → One script at e next → View script at
+
+abbrev events-of : Script → List Event
+events-of s = s .events
+
+pub view : (script : List ℕ) → Bytes script → (at : ℕ) → View script at
+view script small at = size (ltb 65536 (length script)) refl
+  where
+    ends : (b : Bool) → leb (length script) at ≡ b → length script ≤ 65536 → (number : ℕ) → readEvent script at ≡ Refused number → View script at
+    ends true q short number p = over (ap events-of (script-end script short at (leb-true _ _ q)))
+    ends false q short number p = over (ap events-of (script-refused script short at number (leb-false _ _ q) p))
+
+    reads : length script ≤ 65536 → (r : ReadEvent) → readEvent script at ≡ r → View script at
+    reads short (Refused number) p = ends (leb (length script) at) refl short number p
+    reads short (Found e next) p = one e next (one-of script short small at e next p)
+
+    size : (b : Bool) → ltb 65536 (length script) ≡ b → View script at
+    size true q = over (ap events-of (script-long script at (ltb-true 65536 (length script) q)))
+    size false q = reads (ltb-false 65536 (length script) q) (readEvent script at) refl

@@ -1,144 +1,120 @@
 -- What each way out of a call gives is what the call promises.
-use Prim.Native.Nat.{ℕ, suc, _+_, _-_, _≤_, _<_}
+use Prim.Native.Nat.{ℕ, _-_, _≤_, _<_}
 use mathlib.Core.Path.{_≡_, refl, sym, ap, subst, _∙_}
-use mathlib.Core.Logic.{_⊎_, inl, inr, ⊎-elim}
 use mathlib.Core.List.{List, _++_, append-nil}
-use mathlib.Core.Bool.{Bool, true, false, not, _&&_}
+use mathlib.Core.Bool.{Bool, true, false}
 use native.Mathlib.Omega.{arith}
-use lib.ListN.{length, take}
-use lib.Dec.{T, leb, le→leb, leb→le}
+use lib.ListN.{length}
+use lib.Dec.{leb, leb→le}
+use borrow.Author.Tests.{lt-ltb, le-ltb}
+use Rattle.bools.specs.Tests.{is-true, both}
 use Rattle.decimal.specs.Decimal.{brokenText, lineRoom}
-use Rattle.decimal.specs.Written.{written-nil, Puts}
+use Rattle.decimal.specs.Written.{Puts, puts-append}
 use Rattle.rules.specs.declared.Chip.{Chip}
 use Rattle.rules.specs.declared.Core.{Core}
 use Rattle.rules.specs.Lent.{modelOf}
 use Rattle.rules.specs.Model.{Model}
 use Rattle.rules.specs.Sound.{isSound}
-use Rattle.demand3.proofs.Check.{sound-of, of-sound}
+use Rattle.demand3.proofs.Check.{of-sound}
+use Rattle.text.specs.Text.{endText}
 use Rattle.running.specs.declared.Course.{Course}
-use Rattle.running.specs.Running.{restText, restOf, unmoved, finished, isUsable, Usable, Underway, Stuck, Closed, Ran}
-use Rattle.running.proofs.Laws.{rest-end, rest-refused, rest-long}
-use Rattle.running.proofs.Going.{puts-take, puts-drop, puts-length, stays-on, Going}
+use Rattle.running.specs.Running.{scriptAt, isUsable, Usable, Piece, goneOn, stopped, pieceOf, courseOf, Ran}
+use Rattle.running.specs.Steps.{unmoved, refused, going, finished, Underway, Stuck, Closed}
+use Rattle.running.proofs.Laws.{script-end, script-refused, script-long}
+use Rattle.running.proofs.Pieces.{prefixed, still, gone-full, gone-closed}
+use Rattle.running.proofs.Loop.{puts-length, puts-none, Going}
 
--- ---- a progress that is usable
-
-and-true : (a b : Bool) → a && b ≡ true → T a × T b
-and-true true true e = (tt, tt)
-and-true true false e = let z : _≡_ {A = ℕ} 0 1 = cc in let x : ⊥ = omega arith in absurd x
-and-true false b e = let z : _≡_ {A = ℕ} 0 1 = cc in let x : ⊥ = omega arith in absurd x
-
-and-false : (a b : Bool) → a && b ≡ false → T a → T b → ⊥
-and-false true true e s t = let z : _≡_ {A = ℕ} 0 1 = cc in omega arith
-and-false true false e s t = t
-and-false false b e s t = s
+-- ---- a course that is usable
 
 pub usable-of : (c : Chip) (m : Model) (p : Course) → isUsable c m p ≡ true → Usable c m p
 unfolding isUsable
 usable-of c m p e =
-    let b = and-true (isSound c m) (leb (p .events) (p .at)) e in
+    let b = both (isSound c m) (leb (p .events) (p .at)) (is-true e) in
     record { sound = of-sound c m (b .0); counted = leb→le (p .events) (p .at) (b .1) }
 
-not-usable : (c : Chip) (m : Model) (p : Course) → isUsable c m p ≡ false → Usable c m p → ⊥
-unfolding isUsable
-not-usable c m p e u = and-false (isSound c m) (leb (p .events) (p .at)) e (sound-of (u .sound)) (le→leb (p .events) (p .at) (u .counted))
+-- ---- which piece it is
 
--- ---- what a call promises
+module _ (c : Chip) (script : List ℕ) (m : Model) (p : Course) (room : ℕ) where
+  pub piece-ended : p .ended ≡ true → pieceOf c script m p room ≡ stopped true (p .refusal) m p
+  unfolding pieceOf
+  piece-ended e = rw e
 
-module _ (c : Chip) (script : List ℕ) (m : Model) (p : Course) (old : List ℕ) where
-  pub ran-unmoved : (Usable c m p → (p .ended ≡ true) ⊎ (length old < lineRoom)) → Ran c script m p old m (unmoved p) old
-  unfolding restOf
-  ran-unmoved why = record {
-    told = refl;
-    within = omega arith;
-    stays = refl;
-    full = λ u. ⊎-elim (λ e. inl e) (λ h. inr (omega arith)) (why u);
-    headway = λ u k. ⊎-elim (λ e. inl e) (λ h. let z : ⊥ = omega arith in absurd z) (why u);
-    usable = λ u. record { sound = u .sound; counted = u .counted };
-    held = λ _ _. (refl, refl);
-  }
+  pub piece-long : p .ended ≡ false → 65536 < length script → pieceOf c script m p room ≡ goneOn c script m (p .at) (p .events) room
+  unfolding pieceOf
+  piece-long e h = rw (e, lt-ltb 65536 (length script) h)
 
-  pub ran-held : isUsable c m p ≡ false → Ran c script m p old m (unmoved p) old
-  ran-held e = ran-unmoved (λ u. absurd (not-usable c m p e u))
+  pub piece-usable : p .ended ≡ false → length script ≤ 65536 → isUsable c m p ≡ true → pieceOf c script m p room ≡ goneOn c script m (p .at) (p .events) room
+  unfolding pieceOf
+  piece-usable e h u = simp (e, le-ltb 65536 (length script) h, u)
 
-  -- the last line written
-  pub ran-long : (wrote : ℕ) (new : List ℕ) → 65536 < length script → p .ended ≡ false → Puts 0 (brokenText 15 65536) old wrote new → wrote ≤ length old → Ran c script m p old m (finished p wrote) new
-  unfolding restOf
-  ran-long wrote new long going w h = record {
-    told = rw (going, rest-long c script m (p .at) (p .events) long) (append-nil _ ∙ puts-take (omega arith) w);
-    within = omega (arith, puts-length (omega arith) w h);
-    stays = puts-drop (omega arith) w;
-    full = λ _. inl refl;
-    headway = λ _ _. inl refl;
-    usable = λ u. record { sound = u .sound; counted = u .counted };
-    held = λ _ k. let z : ⊥ = omega arith in absurd z;
-  }
+  pub piece-refused : p .ended ≡ false → length script ≤ 65536 → isUsable c m p ≡ false → pieceOf c script m p room ≡ stopped true 16 m p
+  unfolding pieceOf
+  piece-refused e h u = simp (e, le-ltb 65536 (length script) h, u)
+
+-- ---- ways out
+
+module _ {c : Chip} {script : List ℕ} {m : Model} {p : Course} {old : List ℕ} where
+  -- a piece in plain sight
+  ran-by : (q : Piece) → pieceOf c script m p (length old) ≡ q → (r : Course) → r ≡ courseOf q → (new : List ℕ) → Puts 0 (q .text) old (r .wrote) new → r .wrote ≤ length old → Ran c script m p old (q .model) r new
+  ran-by q e r d new w h = record { model = rw e; course = rw e d; bytes = rw e w; within = omega (arith, puts-length w h) }
+
+  pub ran-ended : p .ended ≡ true → p .core ≡ m .core → Ran c script m p old m (unmoved p) old
+  ran-ended e k = ran-by _ (piece-ended c script m p (length old) e) _ (rw (e, k)) old (puts-none 0 old) (omega arith)
+
+  pub ran-refused : p .ended ≡ false → length script ≤ 65536 → isUsable c m p ≡ false → p .core ≡ m .core → Ran c script m p old m (refused p) old
+  ran-refused e h u k = ran-by _ (piece-refused c script m p (length old) e h u) _ (rw k) old (puts-none 0 old) (omega arith)
+
+  -- a script that is too long: no room for its line, and its line
+  module _ (e : p .ended ≡ false) (long : 65536 < length script) (k : p .core ≡ m .core) where
+    pub ran-long-full : length old < lineRoom → Ran c script m p old m (going (p .core) (p .at) (p .events) 0) old
+    ran-long-full h =
+        ran-by _ (piece-long c script m p (length old) e long ∙ gone-full c script m (p .at) (p .events) (length old) h) _ (rw k) old (puts-none 0 old) (omega arith)
+
+    pub ran-long : lineRoom ≤ length old → (wrote : ℕ) (new : List ℕ) → Puts 0 (brokenText 15 65536) old wrote new → wrote ≤ length old → Ran c script m p old m (finished p wrote) new
+    unfolding endText
+    ran-long h wrote new w l =
+        let s = script-long script (p .at) long in
+        let q : pieceOf c script m p (length old) ≡ still true m (p .at) (p .events) (brokenText 15 65536) = piece-long c script m p (length old) e long ∙ gone-closed c script m (p .at) (p .events) (length old) (rw s) h ∙ rw s in
+        let n = w .next-is in
+        let d : wrote ≡ length (brokenText 15 65536) = omega arith in
+        ran-by _ q _ (rw (k, d)) new w l
 
 -- where no event can be read: at the end, and before it
-pub closed-end : {script : List ℕ} {p : Course} {number : ℕ} {out : List ℕ} → Stuck script p number out → length script ≤ p .at → Closed script p out (finished p (p .wrote)) out
-unfolding restOf
-closed-end {script} {p} {number} {out} k h =
-    record {
-      done = refl;
-      puts = λ c m. rw (k .going, rest-end script (k .short) c m (p .at) (p .events) h) (record { next-is = omega arith; bytes = sym (written-nil (p .wrote) out) });
-      within = omega (arith, k .room);
-    }
+module _ {script : List ℕ} {p : Course} {number : ℕ} {out : List ℕ} (k : Stuck script p number out) where
+  pub closed-end : length script ≤ p .at → Closed script p out (finished p (p .wrote)) out
+  unfolding endText
+  closed-end h =
+      let s = script-end script (k .short) (p .at) h in
+      record { none = rw s; done = refl; puts = rw s (puts-none (p .wrote) out); within = omega (arith, k .room) }
 
-pub closed-broken : {script : List ℕ} {p : Course} {number : ℕ} {out : List ℕ} → Stuck script p number out → p .at < length script → (wrote : ℕ) (new : List ℕ) → Puts (p .wrote) (brokenText number (p .at)) out wrote new → wrote ≤ length out → Closed script p out (finished p wrote) new
-unfolding restOf
-closed-broken {script} {p} {number} {out} k h wrote new w l =
-    let r = k .room in
-    record {
-      done = refl;
-      puts = λ c m. rw (k .going, rest-refused script (k .short) c m (p .at) (p .events) number h (k .refused)) w;
-      within = omega (arith, puts-length (omega arith) w l);
-    }
+  pub closed-broken : p .at < length script → (wrote : ℕ) (new : List ℕ) → Puts (p .wrote) (brokenText number (p .at)) out wrote new → wrote ≤ length out → Closed script p out (finished p wrote) new
+  unfolding endText
+  closed-broken h wrote new w l =
+      let s = script-refused script (k .short) (p .at) number h (k .refused) in
+      record { none = rw s; done = refl; puts = rw s w; within = l }
 
-module _ {c : Chip} {script : List ℕ} {m : Model} {p : Course} {old : List ℕ} {t : Model} {q : Course} {new : List ℕ} (y : Underway c script m p) (g : Going c script m (unmoved p) old t q new) where
+module _ {c : Chip} {script : List ℕ} {m : Model} {p : Course} {old : List ℕ} {t : Model} {at events wrote : ℕ} {new : List ℕ} (y : Underway c script m p) (g : Going c script m (p .at) (p .events) old t at events wrote new) where
+  on-from : pieceOf c script m p (length old) ≡ prefixed (g .lines) (goneOn c script t at events (length old - wrote))
+  on-from = piece-usable c script m p (length old) (y .going) (y .short) (y .tested) ∙ g .whole
+
   -- no room for another line
-  pub ran-full : length old < q .wrote + lineRoom → Ran c script m p old t q new
-  unfolding restOf
-  ran-full h = record {
-    told = rw (g .going, y .going) (g .told);
-    within = g .within;
-    stays = g .stays;
-    full = λ _. inr h;
-    headway = λ _ k. inr (g .moved (omega arith));
-    usable = λ _. record { sound = g .sound; counted = g .counted };
-    held = λ e _. absurd (not-usable c m p e (y .usable));
-  }
+  pub ran-full : length old - wrote < lineRoom → Ran c script m p old t (going (t .core) at events wrote) new
+  ran-full h =
+      let q : pieceOf c script m p (length old) ≡ still false t at events (g .lines) = on-from ∙ rw (gone-full c script t at events (length old - wrote) h, append-nil) in
+      let n = g .puts .next-is in
+      let d : wrote ≡ length (g .lines) = omega arith in
+      ran-by _ q _ (rw d) new (g .puts) (g .within)
 
   -- the script is at its end, or broken
-  closed-at : (r : Course) (newer : List ℕ) → Closed script q new r newer → Ran c script m p old t r newer
-  unfolding restOf
-  closed-at r newer d =
-      let w = d .puts c t in
-      let b = w .next-is in
-      let last : r .ended ≡ true = ap (λ (x : Course). x .ended) (d .done) in
-      let all : take (q .wrote) new ++ restOf c script t q ≡ restText c script m (p .at) (p .events) = rw (g .going) (g .told) in
-      record {
-        told = rw (last, y .going) (append-nil _ ∙ puts-take (g .within) w ∙ all);
-        within = d .within;
-        stays = puts-drop (g .within) w ∙ stays-on (q .wrote) (r .wrote) old new (omega arith) (g .stays);
-        full = λ _. inl last;
-        headway = λ _ _. inl last;
-        usable = λ _. rw (d .done) (record { sound = g .sound; counted = g .counted });
-        held = λ e _. absurd (not-usable c m p e (y .usable));
-      }
+  closed-at : lineRoom ≤ length old - wrote → (r : Course) (newer : List ℕ) → Closed script (going (t .core) at events wrote) new r newer → Ran c script m p old t r newer
+  closed-at h r newer d =
+      let z = g .sized in
+      let n = puts-append (omega arith) (g .puts) (d .puts) in
+      let q : pieceOf c script m p (length old) ≡ still true t at events (g .lines ++ endText (scriptAt script at .end)) = on-from ∙ rw (gone-closed c script t at events (length old - wrote) (d .none) h) in
+      let l : r .wrote ≡ length (g .lines ++ endText (scriptAt script at .end)) = omega (arith, n .next-is) in
+      ran-by _ q r (d .done ∙ rw l) newer n (omega (arith, d .within))
 
 -- closing leaves the core, and so the model
-pub ran-closed : {c : Chip} {script : List ℕ} {m : Model} {p : Course} {old : List ℕ} {pending active enabled level : List Bool} {priority nest : List ℕ} {q : Course} {new : List ℕ} → Underway c script m p → Going c script m (unmoved p) old (modelOf pending active enabled level priority nest (q .core)) q new → (r : Course) (newer : List ℕ) → Closed script q new r newer → Ran c script m p old (modelOf pending active enabled level priority nest (r .core)) r newer
-ran-closed {c} {script} {m} {p} {old} {pending} {active} {enabled} {level} {priority} {nest} y g r newer d =
-    subst (λ (x : Core). Ran c script m p old (modelOf pending active enabled level priority nest x) r newer) (sym (ap (λ (x : Course). x .core) (d .done))) (closed-at y g r newer d)
-
--- ---- a caller's loop: with room for a line each call ends the script or moves on in it
-
--- how many calls there may be yet, with so many bytes ahead
-abbrev pub left : Bool → ℕ → ℕ
-left true ahead = 0
-left false ahead = suc ahead
-
-pub left-falls : (was is : Bool) (n a b : ℕ) → not was ≡ true → (is ≡ true) ⊎ ((a < b) × (b ≤ n)) → left is (n - b) < left was (n - a)
-left-falls true is n a b e w = let z : _≡_ {A = ℕ} 0 1 = cc in let x : ⊥ = omega arith in absurd x
-left-falls false true n a b e w = omega arith
-left-falls false false n a b e (inl d) = let z : _≡_ {A = ℕ} 0 1 = cc in let x : ⊥ = omega arith in absurd x
-left-falls false false n a b e (inr w) = omega (arith, w .0, w .1)
+pub ran-closed : {c : Chip} {script : List ℕ} {m : Model} {p : Course} {old : List ℕ} {pending active enabled level : List Bool} {priority nest : List ℕ} {k : Core} {at events wrote : ℕ} {new : List ℕ} → Underway c script m p → Going c script m (p .at) (p .events) old (modelOf pending active enabled level priority nest k) at events wrote new → lineRoom ≤ length old - wrote → (r : Course) (newer : List ℕ) → Closed script (going k at events wrote) new r newer → Ran c script m p old (modelOf pending active enabled level priority nest (r .core)) r newer
+ran-closed {c} {script} {m} {p} {old} {pending} {active} {enabled} {level} {priority} {nest} y g h r newer d =
+    subst (λ (x : Core). Ran c script m p old (modelOf pending active enabled level priority nest x) r newer) (sym (ap (λ (x : Course). x .core) (d .done))) (closed-at y g h r newer d)

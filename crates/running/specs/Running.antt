@@ -1,25 +1,21 @@
--- A script run a piece at a time, on any chip: what is left to write, and what a call promises.
-use Prim.Native.Nat.{ℕ, suc, _+_, _≤_, _<_}
+-- A script run a piece at a time, on any chip: what a call hands back, leaves and writes, for every input.
+use Prim.Native.Nat.{ℕ, zero, suc, _+_, _-_, _≤_}
 use mathlib.Core.Path.{_≡_}
-use mathlib.Core.Logic.{_⊎_}
-use mathlib.Core.List.{List, [], _++_}
-use mathlib.Core.Bool.{Bool, true, false, cond, _&&_}
-use lib.ListN.{length, take, drop}
+use mathlib.Core.List.{List, [], _∷_, _++_}
+use mathlib.Core.Bool.{Bool, true, false, cond, _&&_, _||_}
+use lib.ListN.{length, take}
 use lib.Dec.{ltb, leb}
-use lib.IntN.{ℤ}
 use Rattle.decimal.specs.Decimal.{lineRoom}
 use Rattle.decimal.specs.Written.{Puts}
-use Rattle.script.specs.declared.Event.{Event}
-use Rattle.script.specs.declared.ReadEvent.the-variants.{Refused}
+use Rattle.script.specs.declared.ReadEvent.{ReadEvent}
+use Rattle.script.specs.declared.ReadEvent.the-variants.{Found, Refused}
 use Rattle.script.specs.Reading.{readEvent}
 use Rattle.script.specs.Script.{Script, brokenBy, scriptFrom}
 use Rattle.rules.specs.declared.Chip.{Chip}
-use Rattle.rules.specs.Model.{Model, freshCore}
-use Rattle.rules.specs.Priorities.{execution}
+use Rattle.rules.specs.Model.{Model, Answer, freshCore}
 use Rattle.rules.specs.Sound.{isSound, Sound}
-use Rattle.rules.specs.Step.{actOf}
-use Rattle.guarded.specs.Fits.{Fits}
-use Rattle.text.specs.Text.{lineOf, scriptText}
+use Rattle.rules.specs.Step.{answersOf, runOf}
+use Rattle.text.specs.Text.{lineOf, linesOf, endText, scriptText}
 use Rattle.running.specs.declared.Course.{Course}
 
 -- the script from an offset on; from 0 on it is `scriptOf`
@@ -27,23 +23,11 @@ unfoldable pub scriptAt : List ℕ → ℕ → Script
 scriptAt bytes at =
     cond (ltb 65536 (length bytes)) (record { events = []; end = brokenBy 15 65536 }) (scriptFrom bytes at (length bytes))
 
--- what is left to write after so many events, which left this model and end at this offset
-unfoldable pub restText : Chip → List ℕ → Model → ℕ → ℕ → List ℕ
-restText c bytes m at events = scriptText c m (suc events) (scriptAt bytes at)
-
--- .. on a chip, of a script that has come so far and left this model
-unfoldable pub restOf : Chip → List ℕ → Model → Course → List ℕ
-restOf c bytes m p = cond (p .ended) [] (restText c bytes m (p .at) (p .events))
-
 -- before the first event
 abbrev pub started : Course
-started = record { core = freshCore; at = 0; events = 0; wrote = 0; ended = false }
+started = record { core = freshCore; at = 0; events = 0; wrote = 0; ended = false; refusal = 0 }
 
--- a call that writes nothing hands this back
-abbrev pub unmoved : Course → Course
-unmoved p = record { core = p .core; at = p .at; events = p .events; wrote = 0; ended = p .ended }
-
--- A course that a script can have: a sound state, and every event took a byte or more. Every other one is handed back.
+-- A course that a script can have: a sound state, and every event took a byte or more.
 unfoldable pub isUsable : Chip → Model → Course → Bool
 isUsable c m p = isSound c m && leb (p .events) (p .at)
 
@@ -51,51 +35,89 @@ pub record Usable (c : Chip) (m : Model) (p : Course) : Type 0 where
   pub sound : Sound c m
   pub counted : p .events ≤ p .at
 
+-- ---- how much a call does
+
+-- How many of some answers have their lines written into so much room, the first of them of this number: each line needs the room of the longest.
+unfoldable pub fitting : ℕ → ℕ → List Answer → ℕ
+fitting room number [] = 0
+fitting room number (a ∷ rest) = cond (leb lineRoom room) (suc (fitting (room - length (lineOf number a)) (suc number) rest)) 0
+
+-- whether all have, and the line of a broken script would have room too
+unfoldable pub allFit : ℕ → ℕ → List Answer → Bool
+allFit room number [] = leb lineRoom room
+allFit room number (a ∷ rest) = cond (leb lineRoom room) (allFit (room - length (lineOf number a)) (suc number) rest) false
+
+unfoldable pub passed : ℕ → ReadEvent → (ℕ → ℕ) → ℕ
+passed at (Found e next) rest = rest next
+passed at (Refused number) rest = at
+
+-- the offset after so many events
+unfoldable pub offsetAfter : List ℕ → ℕ → ℕ → ℕ
+offsetAfter bytes at zero = at
+offsetAfter bytes at (suc count) = passed at (readEvent bytes at) (λ next. offsetAfter bytes next count)
+
+-- ---- what a call does
+
+-- The model that it leaves; the offset, the number of events, whether the script has ended and the refusal that it hands back; the text that it writes.
+pub record Piece : Type 0 where
+  pub model : Model
+  pub at : ℕ
+  pub events : ℕ
+  pub ended : Bool
+  pub refusal : ℕ
+  pub text : List ℕ
+
+-- Of a script s that starts at an offset, the first n events ran: "every answer or refusal and the state left are those that demand 2's
+-- rules give for the same list". Where the script has ended the text of its end follows their lines.
+unfoldable pub ran : Chip → List ℕ → Model → ℕ → ℕ → Script → ℕ → Bool → Piece
+ran c bytes m at events s n ended =
+    record {
+      model = runOf c m (take n (s .events));
+      at = offsetAfter bytes at n;
+      events = events + n;
+      ended = ended;
+      refusal = 0;
+      text = linesOf (suc events) (answersOf c m (take n (s .events))) ++ cond ended (endText (s .end)) [];
+    }
+
+-- on a model that so many events left, from the offset after them: as many events as have room for their lines
+unfoldable pub goneOn : Chip → List ℕ → Model → ℕ → ℕ → ℕ → Piece
+goneOn c bytes m at events room =
+    ran c bytes m at events (scriptAt bytes at)
+    (fitting room (suc events) (answersOf c m (scriptAt bytes at .events)))
+    (allFit room (suc events) (answersOf c m (scriptAt bytes at .events)))
+
+-- nothing runs, and nothing is written
+abbrev pub stopped : Bool → ℕ → Model → Course → Piece
+stopped ended refusal m p = record { model = m; at = p .at; events = p .events; ended = ended; refusal = refusal; text = [] }
+
+-- A course that has ended is handed back as it is. "in a script 15 first": a script that is too long says so whatever the state. Else a
+-- state that is not sound, or a count of events that no script has, is refused by 16, and the course ends.
+unfoldable pub pieceOf : Chip → List ℕ → Model → Course → ℕ → Piece
+pieceOf c bytes m p room =
+    cond (p .ended) (stopped true (p .refusal) m p)
+    (cond (ltb 65536 (length bytes) || isUsable c m p) (goneOn c bytes m (p .at) (p .events) room)
+    (stopped true 16 m p))
+
 -- ---- the promise
 
--- What a call does that goes on from p and the model m over lent bytes `old`, hands r back and leaves the model t and `new`.
+abbrev pub courseOf : Piece → Course
+courseOf q = record { core = q .model .core; at = q .at; events = q .events; wrote = length (q .text); ended = q .ended; refusal = q .refusal }
+
+-- What a call does that goes on from p and the model m over lent bytes `old`, hands r back and leaves the model t and `new`. Each part is fixed;
+-- the bytes past what it wrote stay.
 pub record Ran (c : Chip) (script : List ℕ) (m : Model) (p : Course) (old : List ℕ) (t : Model) (r : Course) (new : List ℕ) : Type 0 where
-  -- what it wrote, followed by what the rest gives, is what was left to write
-  pub told : take (r .wrote) new ++ restOf c script t r ≡ restOf c script m p
+  pub model : t ≡ pieceOf c script m p (length old) .model
+  pub course : r ≡ courseOf (pieceOf c script m p (length old))
+  pub bytes : Puts 0 (pieceOf c script m p (length old) .text) old (r .wrote) new
   pub within : r .wrote ≤ length new
-  -- the bytes past what it wrote stay
-  pub stays : drop (r .wrote) new ≡ drop (r .wrote) old
-  -- it writes as many lines as fit: it stops at the end, or where the longest line has no room
-  pub full : Usable c m p → (r .ended ≡ true) ⊎ (length old < r .wrote + lineRoom)
-  -- so with room for a line it ends or moves on in the script, and can be called again
-  pub headway : Usable c m p → lineRoom ≤ length old → (r .ended ≡ true) ⊎ ((p .at < r .at) × (r .at ≤ length script))
-  pub usable : Usable c m p → Usable c t r
-  -- from a course that no script can have it does nothing
-  pub held : isUsable c m p ≡ false → length script ≤ 65536 → (t ≡ m) × (r ≡ unmoved p)
 
--- ---- the code's own steps: what the public functions promise does not mention them
+-- ---- what is left to write
 
-abbrev pub finished : Course → ℕ → Course
-finished p wrote = record { core = p .core; at = p .at; events = p .events; wrote = wrote; ended = true }
+-- after so many events, which left this model and end at this offset
+unfoldable pub restText : Chip → List ℕ → Model → ℕ → ℕ → List ℕ
+restText c bytes m at events = scriptText c m (suc events) (scriptAt bytes at)
 
--- the script is short enough and not at its end
-pub record Underway (c : Chip) (script : List ℕ) (m : Model) (p : Course) : Type 0 where
-  pub fits : Fits c
-  pub short : length script ≤ 65536
-  pub going : p .ended ≡ false
-  pub usable : Usable c m p
-
--- an event has run on the model m, left t with this execution priority, and its line is written from an offset on
-pub record Told (c : Chip) (m : Model) (e : Event) (number at : ℕ) (old : List ℕ) (t : Model) (limit : ℤ) (end : ℕ) (new : List ℕ) : Type 0 where
-  pub left : t ≡ actOf c m e .next
-  pub priority : limit ≡ execution t
-  pub line : Puts at (lineOf number (actOf c m e)) old end new
-  pub within : end ≤ at + lineRoom
-
--- no event can be read, by this refusal, and a line has room
-pub record Stuck (script : List ℕ) (p : Course) (number : ℕ) (out : List ℕ) : Type 0 where
-  pub short : length script ≤ 65536
-  pub going : p .ended ≡ false
-  pub refused : readEvent script (p .at) ≡ Refused number
-  pub room : p .wrote + lineRoom ≤ length out
-
--- the rest is written, on whatever chip and model
-pub record Closed (script : List ℕ) (p : Course) (old : List ℕ) (r : Course) (new : List ℕ) : Type 0 where
-  pub done : r ≡ finished p (r .wrote)
-  pub puts : (c : Chip) (m : Model) → Puts (p .wrote) (restOf c script m p) old (r .wrote) new
-  pub within : r .wrote ≤ length new
+-- .. on a chip, of a script that has come so far and left this model
+unfoldable pub restOf : Chip → List ℕ → Model → Course → List ℕ
+restOf c bytes m p = cond (p .ended) [] (restText c bytes m (p .at) (p .events))

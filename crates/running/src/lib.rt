@@ -8,28 +8,28 @@ ghost use Rattle.decimal.specs.Decimal.{lineRoom};
 ghost use Rattle.rules.specs.declared.Chip.{Chip};
 ghost use Rattle.rules.specs.Model.{fresh};
 ghost use Rattle.rules.specs.Lent.{modelOf};
-ghost use Rattle.step.specs.Ready.{Ready};
 ghost use Rattle.guarded.specs.Fits.{Fits};
 ghost use Rattle.text.specs.Text.{textOf};
-ghost use Rattle.running.specs.Running.{restOf, started, unmoved, finished, isUsable, Usable, Underway, Stuck, Closed, Told, Ran};
+ghost use Rattle.running.specs.Running.{started, isUsable, Usable, Ran, restOf};
+ghost use Rattle.running.specs.Steps.{unmoved, refused, going, finished, Underway, Told, Stuck, Closed};
 use rules::Chip;
 use rules::Core;
-use script::Event;
+use rules::Outcome;
 use script::ReadEvent;
 
 // How far a script has run, beside the lists of the state: its other parts after `events` events, the offset of the next, whether the
-// last line is written, and how many bytes of the buffer the last call wrote.
+// script has ended, how many bytes of the buffer the last call wrote, and 16 where it was refused.
 pub struct Course {
     pub core: Core,
     pub at: usize,
     pub events: u32,
     pub wrote: usize,
     pub ended: bool,
+    pub refusal: u32,
 }
 
-// An event's line is written: the parts of the state that hold no list, its execution priority, and where the next line starts.
+// A line that is written: the execution priority that it prints, and where the next line starts.
 struct Line {
-    core: Core,
     limit: i32,
     end: usize,
 }
@@ -52,6 +52,7 @@ pub fn start() -> Course
         events: 0,
         wrote: 0,
         ended: false,
+        refusal: 0,
     }
 }
 
@@ -82,12 +83,37 @@ fn unmoved(mut p: Course) -> Course
     p
 }
 
+// A course that no script can have: it ends here.
+fn refused(mut p: Course) -> Course
+    ensures { λ r. ⌜ r ≡ refused p ⌝ }
+{
+    p.wrote = 0;
+    p.ended = true;
+    p.refusal = 16;
+    p
+}
+
+// The script goes on.
+fn going(core: Core, at: usize, events: u32, wrote: usize) -> Course
+    ensures { λ r. ⌜ r ≡ going core at events wrote ⌝ }
+{
+    Course {
+        core,
+        at,
+        events,
+        wrote,
+        ended: false,
+        refusal: 0,
+    }
+}
+
 // The last line is written, or there is none.
 fn finished(mut p: Course, wrote: usize) -> Course
     ensures { λ r. ⌜ r ≡ finished p wrote ⌝ }
 {
     p.wrote = wrote;
     p.ended = true;
+    p.refusal = 0;
     p
 }
 
@@ -102,46 +128,23 @@ fn close(script: &[u8], p: Course, number: u32, out: &mut [u8]) -> Course
     finished(p, decimal::put_broken(out, p.wrote, number, p.at as u32))
 }
 
-// An event on a sound state, and its line. The execution priority that the line prints is the one that the next event goes by.
-fn run_event(
-    chip: Chip,
-    pending: &mut [bool],
-    active: &mut [bool],
-    enabled: &mut [bool],
-    level: &mut [bool],
-    priority: &mut [u8],
-    nest: &mut [u8],
-    core: Core,
-    limit: i32,
-    event: Event,
+// The line of an event, from what the event left. Called with room for the line.
+fn put_answer(
+    priority: &[u8],
+    nest: &[u8],
+    done: Outcome,
     number: u32,
     out: &mut [u8],
     at: usize,
 ) -> Line
-    requires { ⌜ Ready chip (modelOf (now pending) (now active) (now enabled) (now level) (now priority) (now nest) core) limit × (at + lineRoom ≤ length (now out)) ⌝ }
-    ensures { λ r. ⌜ Told chip (modelOf (now (pending .entry)) (now (active .entry)) (now (enabled .entry)) (now (level .entry)) (now (priority .entry)) (now (nest .entry)) core) event number at (now (out .entry)) (modelOf (now (pending .exit)) (now (active .exit)) (now (enabled .exit)) (now (level .exit)) (now (priority .exit)) (now (nest .exit)) (r .core)) (r .limit) (r .end) (now (out .exit)) ⌝ }
+    requires { ⌜ (done .core .depth ≤ length (now nest)) × (at + lineRoom ≤ length (now out)) ⌝ }
+    ensures { λ r. ⌜ Told (now (priority .entry)) (now (nest .entry)) done number at (now (out .entry)) (r .limit) (r .end) (now (out .exit)) ⌝ }
 {
-    let done = step::act(
-        chip,
-        pending,
-        active,
-        enabled,
-        level,
-        priority,
-        nest,
-        core,
-        limit,
-        event,
-    );
-    let left = done.core;
-    let reached = sound_state::execution(priority, nest, left);
-    let top = nvic::nest::top_of(nest, left.depth);
-    let end = decimal::put_line(out, at, number, done.refusal, done.value, top, reached);
-    Line {
-        core: left,
-        limit: reached,
-        end,
-    }
+    let core = done.core;
+    let limit = sound_state::execution(priority, nest, core);
+    let top = nvic::nest::top_of(nest, core.depth);
+    let end = decimal::put_line(out, at, number, done.refusal, done.value, top, limit);
+    Line { limit, end }
 }
 
 // The state is not tested at each event: a sound state is sound after any event (`act-sound` of the rules).
@@ -160,17 +163,18 @@ fn run_events(
     requires { ⌜ Underway chip (now script) (modelOf (now pending) (now active) (now enabled) (now level) (now priority) (now nest) (course .core)) course ⌝ }
     ensures { λ r. ⌜ Ran chip (now (script .entry)) (modelOf (now (pending .entry)) (now (active .entry)) (now (enabled .entry)) (now (level .entry)) (now (priority .entry)) (now (nest .entry)) (course .core)) course (now (out .entry)) (modelOf (now (pending .exit)) (now (active .exit)) (now (enabled .exit)) (now (level .exit)) (now (priority .exit)) (now (nest .exit)) (r .core)) r (now (out .exit)) ⌝ }
 {
-    let mut p = course;
-    p.wrote = 0;
-    let core = course.core;
+    let mut core = course.core;
     let mut limit = sound_state::execution(priority, nest, core);
-    while LINE_ROOM <= out.len() - p.wrote {
-        match script::read_event(script, p.at) {
-            ReadEvent::Refused(number) => return close(script, p, number, out),
+    let mut at = course.at;
+    let mut events = course.events;
+    let mut wrote = 0;
+    while LINE_ROOM <= out.len() - wrote {
+        match script::read_event(script, at) {
+            ReadEvent::Refused(number) => {
+                return close(script, going(core, at, events, wrote), number, out);
+            }
             ReadEvent::Found(event, next) => {
-                let core = p.core;
-                let events = p.events + 1;
-                let line = run_event(
+                let done = step::act(
                     chip,
                     pending,
                     active,
@@ -181,23 +185,18 @@ fn run_events(
                     core,
                     limit,
                     event,
-                    events,
-                    out,
-                    p.wrote,
                 );
-                let left = line.core;
-                p = Course {
-                    core: left,
-                    at: next,
-                    events,
-                    wrote: line.end,
-                    ended: false,
-                };
+                let left = done.core;
+                core = left;
+                at = next;
+                events += 1;
+                let line = put_answer(priority, nest, done, events, out, wrote);
                 limit = line.limit;
+                wrote = line.end;
             }
         }
     }
-    p
+    going(core, at, events, wrote)
 }
 
 // The last line, of a script that is too long.
@@ -206,12 +205,14 @@ fn run_long(script: &[u8], p: Course, out: &mut [u8]) -> Course
     ensures { λ r. ⌜ ((chip : Chip) (pending active enabled level : List Bool) (priority nest : List ℕ) → Ran chip (now (script .entry)) (modelOf pending active enabled level priority nest (p .core)) p (now (out .entry)) (modelOf pending active enabled level priority nest (r .core)) r (now (out .exit))) ⌝ }
 {
     if out.len() < LINE_ROOM {
-        return unmoved(p);
+        let core = p.core;
+        return going(core, p.at, p.events, 0);
     }
     finished(p, decimal::put_broken(out, 0, 15, 65536))
 }
 
-// Goes on with a script from where the last call left it, and writes as many lines as fit into `out`.
+// Goes on with a script from where the last call left it, and writes as many lines as fit into `out`. With room for a line each call ends the
+// script or moves on in it.
 pub fn run_some(
     chip: Chip,
     script: &[u8],
@@ -256,5 +257,5 @@ pub fn run_some(
             out,
         );
     }
-    unmoved(course)
+    refused(course)
 }

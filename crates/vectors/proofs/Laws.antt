@@ -2,16 +2,19 @@
 use Prim.Native.Nat.{ℕ, _+_, _≤_, _<_}
 use mathlib.Core.Path.{_≡_, refl, sym, _∙_}
 use mathlib.Core.List.{List, _++_, append-assoc, append-nil}
-use mathlib.Core.Bool.{Bool, true, false, not}
+use mathlib.Core.Bool.{false, not}
 use native.Mathlib.Numerals.{add-one}
 use native.Mathlib.Omega.{arith}
 use lib.ListN.{length, take, drop, getD, length-take, length-drop}
 use lib.Seq.{take-all, take-suc, take-add, getD-drop}
+use borrow.Author.Tests.{not-false}
+use Rattle.numbers.specs.NumberLaws.{Bytes}
 use Rattle.rules.specs.Chip.{chip55}
 use Rattle.run.specs.declared.Progress.{Progress}
 use Rattle.text.specs.Text.{textOf}
-use Rattle.run.specs.Progress.{restOf, Ran}
+use Rattle.run.specs.Progress.{restOf, Usable, Ran}
 use Rattle.running.specs.Running as running
+use Rattle.running.proofs.Headway.{onward}
 use Rattle.vectors.specs.Agree.{Agree}
 
 module _ {want : List ℕ} {at : ℕ} {text : List ℕ} where
@@ -30,19 +33,18 @@ module _ {want : List ℕ} {at : ℕ} {text : List ℕ} where
 -- so much of `want` agrees
 pub record Judging (script want : List ℕ) (p : Progress) (at : ℕ) : Type 0 where
   pub inside : at ≤ length want
+  pub usable : Usable p
   pub told : take at want ++ restOf script p ≡ textOf chip55 script
 
-pub judging-next : {script want : List ℕ} {p r : Progress} {at : ℕ} {old new : List ℕ} {same : ℕ} → Judging script want p at → Ran script p old r new → Agree want at (take (r .wrote) new) same → r .wrote ≤ same → Judging script want r (at + same)
-judging-next {want = want} {r = r} {at = at} {new = new} {same = same} j n a h =
+pub judging-next : {script want : List ℕ} {p r : Progress} {at : ℕ} {old new : List ℕ} {same : ℕ} → Bytes script → Judging script want p at → Ran script p old r new → Agree want at (take (r .wrote) new) same → r .wrote ≤ same → Judging script want r (at + same)
+judging-next {want = want} {r = r} {at = at} {new = new} {same = same} small j n a h =
+    let o = onward small n (j .usable) in
     let whole : take same (drop at want) ≡ take (r .wrote) new = sym (a .equal) ∙ take-all same (take (r .wrote) new) (omega (arith, length-take (r .wrote) new)) in
     record {
       inside = a .inside;
-      told = rw (take-add, whole, append-assoc, n .told) (j .told);
+      usable = o .usable;
+      told = rw (take-add, whole, append-assoc, o .told) (j .told);
     }
-
-not-false : (b : Bool) → not b ≡ false → b ≡ true
-not-false true e = refl
-not-false false e = sym e
 
 pub judged : {script want : List ℕ} {p : Progress} {at : ℕ} → Judging script want p at → not (p .ended) ≡ false → length want ≤ at → want ≡ textOf chip55 script
 unfolding running.restOf

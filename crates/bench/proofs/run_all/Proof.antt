@@ -1,20 +1,23 @@
--- With room for a line each call ends the script or moves on in it (`headway` of its contract), so the loop ends.
+-- With room for a line each call ends the script or moves on in it (`headway` of `running`), so the loop ends.
 use Prim.Native.Nat.{_-_}
 use mathlib.Core.Path.{_≡_, sym}
 use native.Mathlib.Omega.{arith}
 use lib.ListN.{length}
 use lib.Seq.{length-take-le}
-use Rattle.run.specs.Progress.{Usable}
-use Rattle.running.proofs.Promise.{left, left-falls}
+use Rattle.numbers.specs.NumberLaws.{Bytes}
+use Rattle.running.proofs.Headway.{left, left-falls, headway}
 use borrow.Author.Needs.{needs}
 use Rattle.bench.proofs.run_all.Statement.{statement}
 use Rattle.bench.proofs.run_all.Tie as tie
 
 abbrev Inv-loop : tie.InvT-loop
-Inv-loop script out₀ progress₀ out progress = Usable progress × (65536 ≡ length out)
+Inv-loop script out₀ progress₀ out progress = 65536 ≡ length out
 
 abbrev μ-loop : tie.MeasureT-loop
 μ-loop script out₀ progress₀ out progress = left (progress .ended) (length script - progress .at)
+
+small : (c : tie.At-loop Inv-loop μ-loop) → Bytes (c .before .before .before .before .args .script .now)
+small c i = omega (arith, c .before .before .before .shared-slice-known .given i)
 
 large-buffer-requires : tie.Need-large-buffer-requires Inv-loop μ-loop
 large-buffer-requires c κs = search needs
@@ -23,7 +26,7 @@ start-requires : tie.Need-start-requires Inv-loop μ-loop
 start-requires c κs = search needs
 
 loop-holds : tie.Need-loop-holds Inv-loop μ-loop
-loop-holds c = (c .start .ensures .1 .0, search needs)
+loop-holds c = search needs
 
 slice-aggregate-run-some : tie.Need-slice-aggregate-run-some Inv-loop μ-loop
 slice-aggregate-run-some c = search needs
@@ -44,13 +47,11 @@ loop-less : tie.Need-loop-less Inv-loop μ-loop
 loop-less c =
     let r = c .before .before .before .run-some in
     let t = c .before .before .before .before .before in
-    let l = t .before .before .loop in
-    left-falls (l .progress .ended) (r .result .ended) _ _ _ (t .if1 .taken) (r .ensures .headway (l .inv .0) (omega (arith, l .inv .1)))
+    let l = t .before .before in
+    left-falls (l .loop .progress .ended) (r .result .ended) _ _ _ (t .if1 .taken) (headway (small l) (r .ensures) (omega (arith, l .loop .inv)))
 
 loop-again : tie.Need-loop-again Inv-loop μ-loop
-loop-again c =
-    let r = c .before .before .before .run-some in
-    let l = c .before .before .before .before .before .before .before .loop in (r .ensures .usable (l .inv .0), search needs)
+loop-again c = search needs
 
 returns : tie.Need-returns Inv-loop μ-loop
 returns c = search needs

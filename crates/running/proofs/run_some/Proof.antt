@@ -1,17 +1,20 @@
--- A course that cannot go on is handed back; the test of the state is the one that lets the loop act.
-use mathlib.Core.Path.{sym, _∙_}
-use mathlib.Core.Logic.{inl}
+-- An ended course is handed back, a script that is too long is told first, and the test of the state is the one that lets the loop act.
+use mathlib.Core.Path.{refl, sym, _∙_}
 use native.Mathlib.Omega.{arith}
-use Rattle.running.proofs.Promise.{usable-of, ran-unmoved, ran-held}
+use Rattle.running.proofs.Promise.{ran-ended, ran-refused}
 use borrow.Author.Needs.{needs}
 use Rattle.running.proofs.run_some.Statement.{statement}
 use Rattle.running.proofs.run_some.Tie as tie
+
+-- the place where the script is known to be short, from where the state is tested
+abbrev short : tie.After-is-usable → tie.Else2
+short c = c .before .before .before .before .before .before .before
 
 unmoved-requires : tie.Need-unmoved-requires
 unmoved-requires c κs = search needs
 
 returns : tie.Need-returns
-returns c = rw (c .unmoved .ensures) (ran-unmoved _ _ _ _ _ (λ _. inl (c .before .if1 .taken)))
+returns c = rw (c .unmoved .ensures) (ran-ended (c .before .if1 .taken) refl)
 
 run-long-requires : tie.Need-run-long-requires
 run-long-requires c κs = search needs
@@ -27,7 +30,9 @@ is-usable-requires c κs = c .before .before .before .before .before .before .be
 
 run-events-requires : tie.Need-run-events-requires
 run-events-requires c κs =
-    record { fits = c .before .before .before .before .before .before .before .before .before .before .before .before .before .before .before .before .before .before .before .before .before .before .before .before .before .pre; short = omega (arith, c .before .before .before .before .before .before .before .before .before .before .before .before .before .before .before .if2 .left); going = c .before .before .before .before .before .before .before .before .before .before .before .before .before .before .before .before .if1 .left; usable = usable-of _ _ _ (sym (c .before .before .before .before .before .before .before .before .is-usable .ensures) ∙ c .before .before .before .before .before .before .before .if3 .taken) }
+    let u = c .before .before .before .before .before .before .before .before in
+    let l = short u in
+    record { fits = c .before .before .before .before .before .before .before .before .before .before .before .before .before .before .before .before .before .before .before .before .before .before .before .before .before .pre; short = omega (arith, l .if2 .left); going = l .before .if1 .left; tested = sym (u .is-usable .ensures) ∙ c .before .before .before .before .before .before .before .if3 .taken }
 
 same-length-2 : tie.Need-same-length-2
 same-length-2 c = search needs
@@ -53,8 +58,8 @@ same-length-8 c = search needs
 returns-3 : tie.Need-returns-3
 returns-3 c = c .before .before .before .before .before .before .before .before .before .before .before .before .before .before .run-events .ensures
 
-unmoved-requires-2 : tie.Need-unmoved-requires-2
-unmoved-requires-2 c κs = search needs
+refused-requires : tie.Need-refused-requires
+refused-requires c κs = search needs
 
 same-length-9 : tie.Need-same-length-9
 same-length-9 c = search needs
@@ -75,7 +80,10 @@ same-length-14 : tie.Need-same-length-14
 same-length-14 c = search needs
 
 returns-4 : tie.Need-returns-4
-returns-4 c = rw (c .unmoved2 .ensures) (ran-held _ _ _ _ _ (sym (c .before .before .is-usable .ensures) ∙ c .before .if3 .left))
+returns-4 c =
+    let u = c .before .before in
+    let l = short u in
+    rw (c .refused .ensures) (ran-refused (l .before .if1 .left) (omega (arith, l .if2 .left)) (sym (u .is-usable .ensures) ∙ c .before .if3 .left) refl)
 
 pub run-some-spec : {M : Type 1} → statement M
 run-some-spec =
@@ -96,7 +104,7 @@ run-some-spec =
     same-length-7
     same-length-8
     returns-3
-    unmoved-requires-2
+    refused-requires
     same-length-9
     same-length-10
     same-length-11

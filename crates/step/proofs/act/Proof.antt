@@ -8,6 +8,10 @@ use borrow.Author.Needs.{needs}
 use Rattle.step.proofs.act.Statement.{statement}
 use Rattle.step.proofs.act.Tie as tie
 
+-- where the function begins, from where the event is looked at
+abbrev begun : tie.After-slice-known6 → tie.Start
+begun c = c .before .before .before .before .before .before
+
 -- the model that the lists and the core make
 abbrev before : tie.Start → Model
 before s = modelOf (s .args .pending .now) (s .args .active .now) (s .args .enabled .now) (s .args .level .now) (s .args .priority .now) (s .args .nest .now) (s .args .core)
@@ -16,7 +20,7 @@ enum-known-event : tie.Need-enum-known-event
 enum-known-event c = search needs
 
 read-requires : tie.Need-read-requires
-read-requires c κs = c .before .before .before .before .before .before .before .before .before .before .before .before .before .before .pre .sound .core .group
+read-requires c κs = begun (c .before .before .before .before .before .before .before .before) .pre .sound .core .group
 
 enum-known-event-2 : tie.Need-enum-known-event-2
 enum-known-event-2 c = search needs
@@ -64,7 +68,7 @@ enum-told-4 : tie.Need-enum-told-4
 enum-told-4 c = search needs
 
 entry-requires : tie.Need-entry-requires
-entry-requires c κs = enterable (c .before .before .before .before .before .before .before .before .before .before .before .before .before .pre)
+entry-requires c κs = enterable (begun (c .before .before .before .before .before .before .before) .pre)
 
 enum-known-event-6 : tie.Need-enum-known-event-6
 enum-known-event-6 c = search needs
@@ -97,7 +101,10 @@ same-length-5 : tie.Need-same-length-5
 same-length-5 c = search needs
 
 returns : tie.Need-returns
-returns c = c .read .ensures (before (c .before .before .before .before .before .before .before .before .before .before .before .before .before .before .before)) ∙ simp (c .before .before .before .before .before .before .before .event .given .1)
+returns c =
+    let e = c .before .before .before .before .before .before .before in
+    let s = begun (e .before .before) in
+    c .read .ensures (before s) ∙ simp (e .event .given .1)
 
 same-length-6 : tie.Need-same-length-6
 same-length-6 c = search needs
@@ -115,7 +122,11 @@ same-length-10 : tie.Need-same-length-10
 same-length-10 c = search needs
 
 returns-2 : tie.Need-returns-2
-returns-2 c = c .before .before .before .before .before .before .write .ensures (before (c .before .before .before .before .before .before .before .before .before .before .before .before .before .before .before .before .before .before .before .before .before)) ∙ simp (c .before .before .before .before .before .before .before .before .before .before .before .before .before .event2 .given .1)
+returns-2 c =
+    let k = c .before .before .before .before .before .before in
+    let e = k .before .before .before .before .before .before .before in
+    let s = begun (e .before .before) in
+    k .write .ensures (before s) ∙ simp (e .event2 .given .1)
 
 same-length-11 : tie.Need-same-length-11
 same-length-11 c = search needs
@@ -125,24 +136,27 @@ same-length-12 c = search needs
 
 returns-3 : tie.Need-returns-3
 returns-3 c =
-    let s = c .before .before .before .before .before .before .before .before .before .before .before .before .before .before .before .before in
-    c .before .before .before .before .line .ensures (before s) ∙ simp (c .before .before .before .before .before .before .before .before .event3 .given .1)
+    let e = c .before .before .before .before .before .before .before .before in
+    let s = begun (e .before .before) in
+    c .before .before .before .before .line .ensures (before s) ∙ simp (e .event3 .given .1)
 
 same-length-13 : tie.Need-same-length-13
 same-length-13 c = search needs
 
 returns-4 : tie.Need-returns-4
 returns-4 c =
-    let s = c .before .before .before .before .before .before .before .before .before .before .before .before in
-    c .before .before .nmi .ensures (before s) ∙ simp (c .before .before .before .before .enum-told .given .1)
+    let e = c .before .before .before .before in
+    let s = begun (e .before .before) in
+    c .before .before .nmi .ensures (before s) ∙ simp (e .enum-told .given .1)
 
 same-length-14 : tie.Need-same-length-14
 same-length-14 c = search needs
 
 returns-5 : tie.Need-returns-5
 returns-5 c =
-    let s = c .before .before .before .before .before .before .before .before .before .before .before .before in
-    c .before .before .tick .ensures (before s) ∙ simp (c .before .before .before .before .enum-told2 .given .1)
+    let e = c .before .before .before .before in
+    let s = begun (e .before .before) in
+    c .before .before .tick .ensures (before s) ∙ simp (e .enum-told2 .given .1)
 
 same-length-15 : tie.Need-same-length-15
 same-length-15 c = search needs
@@ -155,8 +169,9 @@ same-length-17 c = search needs
 
 returns-6 : tie.Need-returns-6
 returns-6 c =
-    let s = c .before .before .before .before .before .before .before .before .before .before .before .before .before .before .before in
-    c .before .before .fault .ensures (before s) ∙ simp (toZ-ofZ (s .fits .limit) ∙ s .pre .priority, c .before .before .before .before .before .before .before .event4 .given .1)
+    let e = c .before .before .before .before .before .before .before in
+    let s = begun (e .before .before) in
+    c .before .before .fault .ensures (before s) ∙ simp (toZ-ofZ (s .fits .limit) ∙ s .pre .priority, e .event4 .given .1)
 
 same-length-18 : tie.Need-same-length-18
 same-length-18 c = search needs
@@ -169,13 +184,15 @@ same-length-20 c = search needs
 
 returns-7 : tie.Need-returns-7
 returns-7 c =
-    let s = c .before .before .before .before .before .before .before .before .before .before .before .before .before .before in
-    c .before .before .svc .ensures (before s) ∙ simp (toZ-ofZ (s .fits .limit) ∙ s .pre .priority, c .before .before .before .before .before .before .enum-told3 .given .1)
+    let e = c .before .before .before .before .before .before in
+    let s = begun (e .before .before) in
+    c .before .before .svc .ensures (before s) ∙ simp (toZ-ofZ (s .fits .limit) ∙ s .pre .priority, e .enum-told3 .given .1)
 
 returns-8 : tie.Need-returns-8
 returns-8 c =
-    let s = c .before .before .before .before .before .before .before .before .before .before in
-    c .special .ensures (before s) ∙ simp (toZ-ofZ (s .fits .limit) ∙ s .pre .priority, c .before .before .event5 .given .1)
+    let e = c .before .before in
+    let s = begun (e .before .before) in
+    c .special .ensures (before s) ∙ simp (toZ-ofZ (s .fits .limit) ∙ s .pre .priority, e .event5 .given .1)
 
 same-length-21 : tie.Need-same-length-21
 same-length-21 c = search needs
@@ -194,8 +211,10 @@ same-length-25 c = search needs
 
 returns-9 : tie.Need-returns-9
 returns-9 c =
-    let s = c .before .before .before .before .before .before .before .before .before .before .before .before .before .before .before .before .before .before .before .before in
-    c .before .before .before .before .before .before .entry .ensures (before s) ∙ simp (toZ-ofZ (s .fits .limit) ∙ s .pre .priority, c .before .before .before .before .before .before .before .before .before .before .before .before .enum-told4 .given .1)
+    let k = c .before .before .before .before .before .before in
+    let e = k .before .before .before .before .before .before in
+    let s = begun (e .before .before) in
+    k .entry .ensures (before s) ∙ simp (toZ-ofZ (s .fits .limit) ∙ s .pre .priority, e .enum-told4 .given .1)
 
 same-length-26 : tie.Need-same-length-26
 same-length-26 c = search needs
@@ -210,12 +229,17 @@ same-length-29 : tie.Need-same-length-29
 same-length-29 c = search needs
 
 returns-10 : tie.Need-returns-10
-returns-10 c = c .before .before .before .before .before .before .return- .ensures (before (c .before .before .before .before .before .before .before .before .before .before .before .before .before .before .before .before .before .before .before .before)) ∙ simp (c .before .before .before .before .before .before .before .before .before .before .before .before .event6 .given .1)
+returns-10 c =
+    let k = c .before .before .before .before .before .before in
+    let e = k .before .before .before .before .before .before in
+    let s = begun (e .before .before) in
+    k .return- .ensures (before s) ∙ simp (e .event6 .given .1)
 
 returns-11 : tie.Need-returns-11
 returns-11 c =
-    let s = c .before .before .before .before .before .before .before .before .before .before .before in
-    c .access .ensures (before s) ∙ simp (toZ-ofZ (s .fits .limit) ∙ s .pre .priority, c .before .access-number .ensures, c .before .before .before .event7 .given .1)
+    let e = c .before .before .before in
+    let s = begun (e .before .before) in
+    c .access .ensures (before s) ∙ simp (toZ-ofZ (s .fits .limit) ∙ s .pre .priority, c .before .access-number .ensures, e .event7 .given .1)
 
 pub act-spec : {M : Type 1} → statement M
 act-spec =

@@ -4,18 +4,21 @@ use mathlib.Core.Path.{_≡_, sym}
 use native.Mathlib.Omega.{arith}
 use lib.ListN.{length}
 use lib.Seq.{length-take-le}
-use Rattle.run.specs.Progress.{Usable}
-use Rattle.running.proofs.Promise.{left, left-falls}
+use Rattle.numbers.specs.NumberLaws.{Bytes}
+use Rattle.running.proofs.Headway.{left, left-falls, headway}
 use Rattle.vectors.proofs.Laws.{Judging, judging-next, judged}
 use borrow.Author.Needs.{needs}
 use Rattle.vectors.proofs.first_difference.Statement.{statement}
 use Rattle.vectors.proofs.first_difference.Tie as tie
 
 abbrev Inv-loop : tie.InvT-loop
-Inv-loop script want out₀ progress₀ at₀ out progress at = Usable progress × (65536 ≡ length out) × Judging script want progress at
+Inv-loop script want out₀ progress₀ at₀ out progress at = (65536 ≡ length out) × Judging script want progress at
 
 abbrev μ-loop : tie.MeasureT-loop
 μ-loop script want out₀ progress₀ at₀ out progress at = left (progress .ended) (length script - progress .at)
+
+small : (c : tie.At-loop Inv-loop μ-loop) → Bytes (c .before .before .before .before .before .args .script .now)
+small c i = omega (arith, c .before .before .before .before .shared-slice-known .given i)
 
 large-buffer-requires : tie.Need-large-buffer-requires Inv-loop μ-loop
 large-buffer-requires c κs = search needs
@@ -24,7 +27,7 @@ start-requires : tie.Need-start-requires Inv-loop μ-loop
 start-requires c κs = search needs
 
 loop-holds : tie.Need-loop-holds Inv-loop μ-loop
-loop-holds c = (c .start .ensures .1 .0, search needs, record { inside = omega arith; told = c .start .ensures .1 .1 _ })
+loop-holds c = (search needs, record { inside = omega arith; usable = c .start .ensures .1 .0; told = c .start .ensures .1 .1 _ })
 
 slice-aggregate-run-some : tie.Need-slice-aggregate-run-some Inv-loop μ-loop
 slice-aggregate-run-some c = search needs
@@ -39,7 +42,7 @@ slice-aggregate-agreeing : tie.Need-slice-aggregate-agreeing Inv-loop μ-loop
 slice-aggregate-agreeing c = sym (length-take-le _ _ (c .before .before .run-some .ensures .within))
 
 agreeing-requires : tie.Need-agreeing-requires Inv-loop μ-loop
-agreeing-requires c κs = c .before .before .before .before .before .before .loop .inv .2 .inside
+agreeing-requires c κs = c .before .before .before .before .before .before .loop .inv .1 .inside
 
 add-line-at : tie.Need-add-line-at Inv-loop μ-loop
 add-line-at c = omega (arith, c .before .agreeing .ensures .inside, c .before .before .before .before .before .before .before .before .before .before .before .before .before .pre)
@@ -57,26 +60,22 @@ loop-less : tie.Need-loop-less Inv-loop μ-loop
 loop-less c =
     let r = c .before .before .before .before .run-some in
     let t = c .before .before .before .before .before .before in
-    let l = t .before .before .loop in
-    left-falls (l .progress .ended) (r .result .ended) _ _ _ (t .if1 .taken) (r .ensures .headway (l .inv .0) (omega (arith, l .inv .1)))
+    let l = t .before .before in
+    left-falls (l .loop .progress .ended) (r .result .ended) _ _ _ (t .if1 .taken) (headway (small l) (r .ensures) (omega (arith, l .loop .inv .0)))
 
 loop-again : tie.Need-loop-again Inv-loop μ-loop
 loop-again c =
-    let r = c .before .before .before .before .run-some in
-    let l = c .before .before .before .before .before .before .before .before .loop in (
-      r .ensures .usable (l .inv .0),
-      search needs,
-      judging-next (l .inv .2) (r .ensures) (c .before .agreeing .ensures) (c .if2 .left),
-    )
+    let l = c .before .before .before .before .before .before .before .before in
+    (search needs, judging-next (small l) (l .loop .inv .1) (c .before .before .before .before .run-some .ensures) (c .before .agreeing .ensures) (c .if2 .left))
 
 line-at-requires-2 : tie.Need-line-at-requires-2 Inv-loop μ-loop
-line-at-requires-2 c κs = (c .before .before .before .loop .inv .2 .inside, c .before .before .before .before .before .before .before .before .pre)
+line-at-requires-2 c κs = (c .before .before .before .loop .inv .1 .inside, c .before .before .before .before .before .before .before .before .pre)
 
 returns-2 : tie.Need-returns-2 Inv-loop μ-loop
 returns-2 c = λ e. let z : ⊥ = omega (arith, c .line-at2 .ensures) in absurd z
 
 returns-3 : tie.Need-returns-3 Inv-loop μ-loop
-returns-3 c = λ _. judged (c .before .before .before .loop .inv .2) (c .before .if1 .left) (c .if3 .left)
+returns-3 c = λ _. judged (c .before .before .before .loop .inv .1) (c .before .if1 .left) (c .if3 .left)
 
 pub first-difference-spec : {M : Type 1} → statement M
 first-difference-spec =

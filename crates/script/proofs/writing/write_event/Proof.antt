@@ -13,6 +13,10 @@ use Rattle.script.proofs.writing.write_event.Tie as tie
 answered : {a b : Written} {A : Type 0} → (a ≡ b) × A → (a ≡ b) × (A × (writtenAnswer a ≡ writtenAnswer b))
 answered p = (p .0, (p .1, ap writtenAnswer (p .0)))
 
+-- an earlier place of the function, from a later one
+abbrev at-start : tie.After-slice-known2 → tie.Start
+at-start c = c .before .before .before .before .before .before .before .before .before .before
+
 returns : tie.Need-returns
 returns c = answered (too-long _ _ _ (omega arith))
 
@@ -41,7 +45,7 @@ returns-4 : tie.Need-returns-4
 returns-4 c =
     let b = same-bytes _ _ (c .before .before .before .before .before .before .before .numbers-of .ensures) in
     let s = ap length b in
-    let r = room (c .before .before .before .before .before .before .before .before .before .before .args .out .now) (c .before .before .before .before .before .before .before .before .before .before .args .at) (c .before .before .before .before .before .before .before .before .before .before .args .e) (omega arith) in
+    let r = room ((at-start c) .args .out .now) ((at-start c) .args .at) ((at-start c) .args .e) (omega arith) in
     answered (simp (c .before .before .before .before .before .before .event-size .ensures, b) (r .0), c .before .before .put-all .ensures ∙ simp b (r .1))
 
 pub write-event-spec : {M : Type 1} → statement M
