@@ -1,20 +1,20 @@
--- The law of `running` at the 55-line chip: a progress is its course beside the model of its state.
+-- The law of `pieces` at the 55-line chip: a progress is its course beside the model of its state.
 use Prim.Native.Nat.{ℕ}
 use mathlib.Core.Path.{ap}
 use mathlib.Core.List.{List}
 use Rattle.numbers.specs.NumberLaws.{Bytes}
 use Rattle.rules.specs.Chip.{chip55}
 use Rattle.rules.specs.Model.{fresh}
-use Rattle.running.specs.Joined as running
-use Rattle.running.proofs.Joined.{pieces-joined}
+use Rattle.pieces.specs.Joined as lent
+use Rattle.pieces.proofs.Joined.{pieces-joined}
 use Rattle.model.specs.View.{model, state}
 use Rattle.run.specs.declared.Progress.{Progress}
 use Rattle.run.specs.Progress.{course}
-use Rattle.run.specs.Joined.{Called, stop, call, CodeJoined}
+use Rattle.run.specs.Joined.{Continued, stop, call, CodeJoined}
 
-called : {script : List ℕ} {p r : Progress} {outs pieces : List (List ℕ)} → Called script p outs pieces r → running.Calls chip55 script (model (p .state)) (course p) outs pieces (model (r .state)) (course r)
-called stop = running.stop
-called (call n k) = running.call n (called k)
+called : {script : List ℕ} {p r : Progress} {outs pieces : List (List ℕ)} → Continued script p outs pieces r → lent.Resumed chip55 script (model (p .state)) (course p) outs pieces (model (r .state)) (course r)
+called stop = lent.stop
+called (call n k) = lent.call n (called k)
 
 pub code-joined : (script : List ℕ) → Bytes script → CodeJoined script
 unfolding fresh

@@ -1,5 +1,5 @@
 -- The pieces of a script joined are its text, said of the progress by value: a list of calls of `run_some` from `start`, each on the progress that
--- the last one handed back. `running` states it and proves it for every chip.
+-- the last one handed back. `pieces` states it and proves it for every chip.
 use Prim.Native.Nat.{ℕ, _<_}
 use mathlib.Core.Path.{_≡_}
 use mathlib.Core.List.{List, [], _∷_, _++_}
@@ -10,18 +10,18 @@ use Rattle.rules.specs.Chip.{chip55}
 use Rattle.rules.specs.Model.{fresh}
 use Rattle.rules.specs.Step.{runOf}
 use Rattle.text.specs.Text.{textOf}
-use Rattle.running.specs.Joined.{joined, Roomy}
+use Rattle.pieces.specs.Joined.{joined, Roomy}
 use Rattle.model.specs.View.{state}
 use Rattle.run.specs.declared.Progress.{Progress}
 use Rattle.run.specs.Progress.{started, restOf, Ran}
 
 -- They were lent `outs` and wrote `pieces`; the last handed r back.
-pub data Called (script : List ℕ) : Progress → List (List ℕ) → List (List ℕ) → Progress → Type 0 where
-  stop : {p : Progress} → Called script p [] [] p
-  call : {p r q : Progress} {old new : List ℕ} {outs pieces : List (List ℕ)} → Ran script p old r new → Called script r outs pieces q → Called script p (old ∷ outs) (take (r .wrote) new ∷ pieces) q
+pub data Continued (script : List ℕ) : Progress → List (List ℕ) → List (List ℕ) → Progress → Type 0 where
+  stop : {p : Progress} → Continued script p [] [] p
+  call : {p r q : Progress} {old new : List ℕ} {outs pieces : List (List ℕ)} → Ran script p old r new → Continued script r outs pieces q → Continued script p (old ∷ outs) (take (r .wrote) new ∷ pieces) q
 
 pub record CodeJoined (script : List ℕ) : Type 0 where
-  pub prefix : (outs pieces : List (List ℕ)) (r : Progress) → Called script started outs pieces r → joined pieces ++ restOf script r ≡ textOf chip55 script
-  pub whole : (outs pieces : List (List ℕ)) (r : Progress) → Called script started outs pieces r → r .ended ≡ true → joined pieces ≡ textOf chip55 script
-  pub left : (outs pieces : List (List ℕ)) (r : Progress) → Called script started outs pieces r → r .ended ≡ true → r .state ≡ state (runOf chip55 (fresh chip55) (scriptOf script .events))
-  pub ends : (p : Progress) (outs pieces : List (List ℕ)) (r : Progress) → Called script p outs pieces r → Roomy outs → length script < length outs → r .ended ≡ true
+  pub prefix : (outs pieces : List (List ℕ)) (r : Progress) → Continued script started outs pieces r → joined pieces ++ restOf script r ≡ textOf chip55 script
+  pub whole : (outs pieces : List (List ℕ)) (r : Progress) → Continued script started outs pieces r → r .ended ≡ true → joined pieces ≡ textOf chip55 script
+  pub left : (outs pieces : List (List ℕ)) (r : Progress) → Continued script started outs pieces r → r .ended ≡ true → r .state ≡ state (runOf chip55 (fresh chip55) (scriptOf script .events))
+  pub ends : (p : Progress) (outs pieces : List (List ℕ)) (r : Progress) → Continued script p outs pieces r → Roomy outs → length script < length outs → r .ended ≡ true

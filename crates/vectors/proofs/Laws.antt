@@ -13,8 +13,8 @@ use Rattle.rules.specs.Chip.{chip55}
 use Rattle.run.specs.declared.Progress.{Progress}
 use Rattle.text.specs.Text.{textOf}
 use Rattle.run.specs.Progress.{restOf, Usable, Ran}
-use Rattle.running.specs.Running as running
-use Rattle.running.proofs.Headway.{onward}
+use Rattle.pieces.specs.Pieces as pieces
+use Rattle.pieces.proofs.Headway.{onward}
 use Rattle.vectors.specs.Agree.{Agree}
 
 module _ {want : List ℕ} {at : ℕ} {text : List ℕ} where
@@ -47,5 +47,5 @@ judging-next {want = want} {r = r} {at = at} {new = new} {same = same} small j n
     }
 
 pub judged : {script want : List ℕ} {p : Progress} {at : ℕ} → Judging script want p at → not (p .ended) ≡ false → length want ≤ at → want ≡ textOf chip55 script
-unfolding running.restOf
+unfolding pieces.restOf
 judged {script} {want} {p} {at} j e h = rw (not-false (p .ended) e, append-nil, take-all at want h) at (j .told)

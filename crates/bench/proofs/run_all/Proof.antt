@@ -1,11 +1,11 @@
--- With room for a line each call ends the script or moves on in it (`headway` of `running`), so the loop ends.
+-- With room for a line each call ends the script or moves on in it (`headway` of `pieces`), so the loop ends.
 use Prim.Native.Nat.{_-_}
 use mathlib.Core.Path.{_≡_, sym}
 use native.Mathlib.Omega.{arith}
 use lib.ListN.{length}
 use lib.Seq.{length-take-le}
 use Rattle.numbers.specs.NumberLaws.{Bytes}
-use Rattle.running.proofs.Headway.{left, left-falls, headway}
+use Rattle.pieces.proofs.Headway.{left, left-falls, headway}
 use borrow.Author.Needs.{needs}
 use Rattle.bench.proofs.run_all.Statement.{statement}
 use Rattle.bench.proofs.run_all.Tie as tie

@@ -2,7 +2,7 @@
 use mathlib.Core.Path.{refl}
 use Rattle.rules.specs.Chip.{chip55}
 use Rattle.rules.specs.Model.{fresh}
-use Rattle.running.proofs.Joined.{started-usable, started-rest}
+use Rattle.pieces.proofs.Joined.{started-usable, started-rest}
 use borrow.Author.Needs.{needs}
 use Rattle.run.proofs.start.Statement.{statement}
 use Rattle.run.proofs.start.Tie as tie

@@ -15,9 +15,9 @@ use Rattle.rules.specs.Sound.{Sound}
 use Rattle.demand3.proofs.Check.{depth-fits}
 use Rattle.demand3.proofs.Nesting.{execution-nest}
 use Rattle.demand3.proofs.Steps.{act-sound}
-use Rattle.running.proofs.Laws.{One, one-of}
-use Rattle.running.proofs.Loop.{Going, going-first, going-next}
-use Rattle.running.proofs.Promise.{usable-of, ran-full, ran-closed}
+use Rattle.pieces.proofs.Laws.{One, one-of}
+use Rattle.pieces.proofs.Loop.{Going, going-first, going-next}
+use Rattle.pieces.proofs.Promise.{usable-of, ran-full, ran-closed}
 use borrow.Author.Needs.{needs}
 use Rattle.running.proofs.run_events.Statement.{statement}
 use Rattle.running.proofs.run_events.Tie as tie
@@ -42,7 +42,7 @@ abbrev read : tie.After-act Inv-loop μ-loop → tie.After-event Inv-loop μ-loo
 read c = c .before .before .before .before .before .before .before .before
 
 first-sound : (c : tie.Start Inv-loop μ-loop) → Sound (c .args .chip) (modelOf (c .args .pending .now) (c .args .active .now) (c .args .enabled .now) (c .args .level .now) (c .args .priority .now) (c .args .nest .now) (c .args .course .core))
-first-sound c = usable-of _ _ _ (c .pre .tested) .sound
+first-sound c = usable-of _ _ _ (c .pre .1 .tested) .sound
 
 small : (c : tie.At-loop Inv-loop μ-loop) → Bytes (begun c .args .script .now)
 small c i = omega (arith, c .before .before .before .before .before .before .before .before .before .before .before .before .shared-slice-known .given i)
@@ -51,7 +51,7 @@ room : (c : tie.In-loop Inv-loop μ-loop) → c .before .loop .wrote + lineRoom 
 room c = omega (arith, c .loop-test .taken, c .before .loop .inv .0 .within, c .before .loop .inv .0 .sized)
 
 one : (c : tie.After-event Inv-loop μ-loop) → One (begun (head c) .args .script .now) (head c .loop .at) (c .event .given .0 .0) (c .event .given .0 .1 .0)
-one c = one-of _ (begun (head c) .pre .short) (small (head c)) _ _ _ (sym (c .before .before .read-event .ensures .0) ∙ c .event .given .1)
+one c = one-of _ (begun (head c) .pre .1 .short) (small (head c)) _ _ _ (sym (c .before .before .read-event .ensures .0) ∙ c .event .given .1)
 
 -- the answer of an event, and the model that it leaves
 abbrev after : tie.After-act Inv-loop μ-loop → Answer
@@ -68,7 +68,7 @@ execution-requires c κs = let h = first-sound (c .before .before .before .befor
 loop-holds : tie.Need-loop-holds Inv-loop μ-loop
 loop-holds c =
     let s = c .before .before .before .before .before .before .before .before .before .before .before .before in
-    (going-first _ _ _ _ _ _ (first-sound s) (usable-of _ _ _ (s .pre .tested) .counted), toZ-ofZ (search needs) ∙ c .execution .ensures ∙ execution-nest (first-sound s))
+    (going-first _ _ _ _ _ _ (first-sound s) (usable-of _ _ _ (s .pre .1 .tested) .counted), toZ-ofZ (search needs) ∙ c .execution .ensures ∙ execution-nest (first-sound s))
 
 sub-loop : tie.Need-sub-loop Inv-loop μ-loop
 sub-loop c = omega (arith, c .loop .inv .0 .within, c .loop .inv .0 .sized)
@@ -86,7 +86,7 @@ close-requires : tie.Need-close-requires Inv-loop μ-loop
 close-requires c κs =
     rw (c .before .going .ensures)
     (record {
-      short = begun (c .before .before .before .before .before .before .before) .pre .short;
+      short = begun (c .before .before .before .before .before .before .before) .pre .1 .short;
       refused = sym (c .before .before .before .before .before .read-event .ensures .0) ∙ c .before .before .before .number .given .1;
       room = room (c .before .before .before .before .before .before);
     })
@@ -117,7 +117,7 @@ returns c =
     let l = c .before .before .before .before .before .before .before .before .before .before in
     let h = room (c .before .before .before .before .before .before .before .before .before) in
     let z = l .loop .inv .0 .sized in
-    ran-closed (begun l .pre) (l .loop .inv .0) (omega arith) _ _ (rw (c .before .before .before .before .going .ensures) at (c .before .before .close .ensures))
+    ran-closed (begun l .pre .1) (l .loop .inv .0) (omega arith) _ _ (rw (c .before .before .before .before .going .ensures) at (c .before .before .close .ensures))
 
 enum-known-event : tie.Need-enum-known-event Inv-loop μ-loop
 enum-known-event c = search needs
@@ -125,13 +125,13 @@ enum-known-event c = search needs
 act-requires : tie.Need-act-requires Inv-loop μ-loop
 act-requires c κs =
     let l = c .before .before .before .before .before .before .before .before .before .before .before in
-    let y = begun l .pre in
-    record { lines = y .fits .lines; sound = l .loop .inv .0 .sound; priority = l .loop .inv .1 }
+    let y = begun l .pre .0 in
+    record { lines = y .lines; sound = l .loop .inv .0 .sound; priority = l .loop .inv .1 }
 
 add-events : tie.Need-add-events Inv-loop μ-loop
 add-events c =
     let e = c .before .before .before .before .before .before .before .before .before .before .before .before .before .before .before .before .before .before .before .before .before in
-    omega (arith, one e .forward, one e .inside, head e .loop .inv .0 .counted, begun (head e) .pre .short)
+    omega (arith, one e .forward, one e .inside, head e .loop .inv .0 .counted, begun (head e) .pre .1 .short)
 
 put-answer-requires : tie.Need-put-answer-requires Inv-loop μ-loop
 put-answer-requires c κs = let h = after-sound (c .before .before .before .before .before .before .before .before .before .before .before .before .before .before .before .before) in let d = depth-fits h in let l = h .places .size in (omega arith, room (c .before .before .before .before .before .before .before .before .before .before .before .before .before .before .before .before .before .before .before .before .before .before .before .before .before .before .before))
@@ -174,7 +174,7 @@ returns-2 : tie.Need-returns-2 Inv-loop μ-loop
 returns-2 c =
     let l = c .before .before in
     let z = l .loop .inv .0 .sized in
-    rw (c .going2 .ensures) (ran-full (begun l .pre) (l .loop .inv .0) (omega (arith, c .before .loop-test .left)))
+    rw (c .going2 .ensures) (ran-full (begun l .pre .1) (l .loop .inv .0) (omega (arith, c .before .loop-test .left)))
 
 pub run-events-spec : {M : Type 1} → statement M
 run-events-spec =

@@ -1,7 +1,7 @@
 -- An ended course is handed back, a script that is too long is told first, and the test of the state is the one that lets the loop act.
 use mathlib.Core.Path.{refl, sym, _∙_}
 use native.Mathlib.Omega.{arith}
-use Rattle.running.proofs.Promise.{ran-ended, ran-refused}
+use Rattle.pieces.proofs.Promise.{ran-ended, ran-refused}
 use borrow.Author.Needs.{needs}
 use Rattle.running.proofs.run_some.Statement.{statement}
 use Rattle.running.proofs.run_some.Tie as tie
@@ -32,7 +32,7 @@ run-events-requires : tie.Need-run-events-requires
 run-events-requires c κs =
     let u = c .before .before .before .before .before .before .before .before in
     let l = short u in
-    record { fits = c .before .before .before .before .before .before .before .before .before .before .before .before .before .before .before .before .before .before .before .before .before .before .before .before .before .pre; short = omega (arith, l .if2 .left); going = l .before .if1 .left; tested = sym (u .is-usable .ensures) ∙ c .before .before .before .before .before .before .before .if3 .taken }
+    (c .before .before .before .before .before .before .before .before .before .before .before .before .before .before .before .before .before .before .before .before .before .before .before .before .before .pre, record { short = omega (arith, l .if2 .left); going = l .before .if1 .left; tested = sym (u .is-usable .ensures) ∙ c .before .before .before .before .before .before .before .if3 .taken })
 
 same-length-2 : tie.Need-same-length-2
 same-length-2 c = search needs

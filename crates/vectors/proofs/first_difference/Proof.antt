@@ -5,7 +5,7 @@ use native.Mathlib.Omega.{arith}
 use lib.ListN.{length}
 use lib.Seq.{length-take-le}
 use Rattle.numbers.specs.NumberLaws.{Bytes}
-use Rattle.running.proofs.Headway.{left, left-falls, headway}
+use Rattle.pieces.proofs.Headway.{left, left-falls, headway}
 use Rattle.vectors.proofs.Laws.{Judging, judging-next, judged}
 use borrow.Author.Needs.{needs}
 use Rattle.vectors.proofs.first_difference.Statement.{statement}

@@ -4,8 +4,8 @@ use mir.Facts.{toZ-ofZ}
 use mir.Syntax.{w32}
 use mir.Val.{toZ, ofZ}
 use borrow.Author.Needs.{needs}
-use Rattle.running.proofs.put_answer.Statement.{statement}
-use Rattle.running.proofs.put_answer.Tie as tie
+use Rattle.pieces.proofs.put_answer.Statement.{statement}
+use Rattle.pieces.proofs.put_answer.Tie as tie
 
 execution-requires : tie.Need-execution-requires
 execution-requires c κs = search needs

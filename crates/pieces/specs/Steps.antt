@@ -1,4 +1,4 @@
--- The code's own steps: what the public functions promise does not mention them.
+-- The steps of a call: what `run_some` promises does not mention them.
 use Prim.Native.Nat.{ℕ, _+_, _≤_}
 use mathlib.Core.Path.{_≡_}
 use mathlib.Core.List.{List, []}
@@ -14,10 +14,9 @@ use Rattle.rules.specs.declared.Chip.{Chip}
 use Rattle.rules.specs.declared.Core.{Core}
 use Rattle.rules.specs.declared.Outcome.{Outcome}
 use Rattle.rules.specs.Model.{Model, down, top}
-use Rattle.guarded.specs.Fits.{Fits}
 use Rattle.text.specs.Text.{endText}
-use Rattle.running.specs.declared.Course.{Course}
-use Rattle.running.specs.Running.{scriptAt, isUsable}
+use Rattle.pieces.specs.declared.Course.{Course}
+use Rattle.pieces.specs.Pieces.{scriptAt, isUsable}
 
 -- ---- courses that are handed back
 
@@ -37,7 +36,6 @@ finished p wrote = record { core = p .core; at = p .at; events = p .events; wrot
 
 -- the script is short enough and not at its end
 pub record Underway (c : Chip) (script : List ℕ) (m : Model) (p : Course) : Type 0 where
-  pub fits : Fits c
   pub short : length script ≤ 65536
   pub going : p .ended ≡ false
   pub tested : isUsable c m p ≡ true

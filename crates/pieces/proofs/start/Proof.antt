@@ -1,9 +1,9 @@
 -- The fresh state is sound, and the script from offset 0 on is the whole script.
 use mathlib.Core.Path.{refl}
-use Rattle.running.proofs.Joined.{started-usable, started-rest}
+use Rattle.pieces.proofs.Joined.{started-usable, started-rest}
 use borrow.Author.Needs.{needs}
-use Rattle.running.proofs.start.Statement.{statement}
-use Rattle.running.proofs.start.Tie as tie
+use Rattle.pieces.proofs.start.Statement.{statement}
+use Rattle.pieces.proofs.start.Tie as tie
 
 fresh-core-requires : tie.Need-fresh-core-requires
 fresh-core-requires c κs = search needs

@@ -14,8 +14,8 @@ use Rattle.rules.specs.Sound.{Sound}
 use Rattle.rules.specs.Step.{actOf, stepOf, answersOf}
 use Rattle.demand3.proofs.Check.{step-sound}
 use Rattle.text.specs.Text.{lineOf, linesOf, endText}
-use Rattle.running.specs.Running.{scriptAt, fitting, allFit, passed, offsetAfter, Piece, ran, goneOn}
-use Rattle.running.proofs.Laws.{One}
+use Rattle.pieces.specs.Pieces.{scriptAt, fitting, allFit, passed, offsetAfter, Piece, ran, goneOn}
+use Rattle.pieces.proofs.Laws.{One}
 
 -- a text before a piece
 abbrev pub prefixed : List ℕ → Piece → Piece

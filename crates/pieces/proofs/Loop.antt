@@ -17,9 +17,9 @@ use Rattle.rules.specs.Sound.{Sound}
 use Rattle.rules.specs.Step.{actOf}
 use Rattle.demand3.proofs.Steps.{act-sound}
 use Rattle.text.specs.Text.{lineOf}
-use Rattle.running.specs.Running.{goneOn}
-use Rattle.running.proofs.Laws.{One}
-use Rattle.running.proofs.Pieces.{prefixed, gone-next}
+use Rattle.pieces.specs.Pieces.{goneOn}
+use Rattle.pieces.proofs.Laws.{One}
+use Rattle.pieces.proofs.Pieces.{prefixed, gone-next}
 
 pub puts-length : {at next : ℕ} {text old new : List ℕ} → Puts at text old next new → next ≤ length old → length new ≡ length old
 puts-length {at} {next} {text} {old} p k = ap length (p .bytes) ∙ written-length at text old (omega (arith, p .next-is))

@@ -16,7 +16,7 @@ use Rattle.rules.specs.Model.{Model, Answer, freshCore}
 use Rattle.rules.specs.Sound.{isSound, Sound}
 use Rattle.rules.specs.Step.{answersOf, runOf}
 use Rattle.text.specs.Text.{lineOf, linesOf, endText, scriptText}
-use Rattle.running.specs.declared.Course.{Course}
+use Rattle.pieces.specs.declared.Course.{Course}
 
 -- the script from an offset on; from 0 on it is `scriptOf`
 unfoldable pub scriptAt : List ℕ → ℕ → Script

@@ -14,7 +14,7 @@ use Rattle.script.specs.EventLaws.{event-read}
 use Rattle.numbers.specs.NumberLaws.{Bytes}
 use Rattle.script.specs.Reading.{readEvent}
 use Rattle.script.specs.Script.{Script, whole, brokenBy, followed, scriptFrom}
-use Rattle.running.specs.Running.{scriptAt}
+use Rattle.pieces.specs.Pieces.{scriptAt}
 
 module _ (script : List ℕ) where
   nothing-left : (at count : ℕ) → length script ≤ at → scriptFrom script at count ≡ whole []

@@ -13,10 +13,10 @@ use Rattle.rules.specs.Model.{Model, fresh}
 use Rattle.rules.specs.Step.{runOf}
 use Rattle.demand3.proofs.Steps.{sound-fresh}
 use Rattle.text.specs.Text.{textOf}
-use Rattle.running.specs.declared.Course.{Course}
-use Rattle.running.specs.Running.{scriptAt, started, Usable, restText, restOf}
-use Rattle.running.specs.Joined.{Calls, stop, call, joined, Roomy, Joined}
-use Rattle.running.proofs.Headway.{lastOf, Moves, Onward, onward, ended-stays, headway}
+use Rattle.pieces.specs.declared.Course.{Course}
+use Rattle.pieces.specs.Pieces.{scriptAt, started, Usable, restText, restOf}
+use Rattle.pieces.specs.Joined.{Resumed, stop, call, joined, Roomy, Joined}
+use Rattle.pieces.proofs.Headway.{lastOf, Moves, Onward, onward, ended-stays, headway}
 
 pub started-usable : (c : Chip) → Usable c (fresh c) started
 started-usable c = record { sound = sound-fresh c; counted = omega arith }
@@ -47,22 +47,22 @@ far-end (over e) h = e
 far-end (passed w k) h = let z : ⊥ = omega arith in absurd z
 
 module _ {c : Chip} {script : List ℕ} (small : Bytes script) where
-  calls-onward : {m t : Model} {p r : Course} {outs pieces : List (List ℕ)} → Calls c script m p outs pieces t r → Usable c m p → Onward c script m p t r (joined pieces)
+  calls-onward : {m t : Model} {p r : Course} {outs pieces : List (List ℕ)} → Resumed c script m p outs pieces t r → Usable c m p → Onward c script m p t r (joined pieces)
   calls-onward stop u = record { told = refl; last = refl; usable = u }
   calls-onward (call n k) u =
       let o = onward small n u in
       let i = calls-onward k (o .usable) in
       record { told = rw (append-assoc, i .told) (o .told); last = i .last ∙ o .last; usable = i .usable }
 
-  calls-ended : {m t : Model} {p r : Course} {outs pieces : List (List ℕ)} → Calls c script m p outs pieces t r → p .ended ≡ true → r .ended ≡ true
+  calls-ended : {m t : Model} {p r : Course} {outs pieces : List (List ℕ)} → Resumed c script m p outs pieces t r → p .ended ≡ true → r .ended ≡ true
   calls-ended stop e = e
   calls-ended (call n k) e = calls-ended k (ended-stays small n e)
 
-  calls-move : {m t : Model} {p r : Course} {outs pieces : List (List ℕ)} → Calls c script m p outs pieces t r → Roomy outs → p .at ≤ length script → Far (length script) (p .at) (length outs) (r .ended) (r .at)
+  calls-move : {m t : Model} {p r : Course} {outs pieces : List (List ℕ)} → Resumed c script m p outs pieces t r → Roomy outs → p .at ≤ length script → Far (length script) (p .at) (length outs) (r .ended) (r .at)
   calls-move stop w h = passed (omega arith) h
   calls-move (call n k) w h = far-on (headway small n (w .0)) (λ e. calls-ended k e) (λ i. calls-move k (w .1) i)
 
-  calls-end : {m t : Model} {p r : Course} {outs pieces : List (List ℕ)} → Calls c script m p outs pieces t r → Roomy outs → length script < length outs → r .ended ≡ true
+  calls-end : {m t : Model} {p r : Course} {outs pieces : List (List ℕ)} → Resumed c script m p outs pieces t r → Roomy outs → length script < length outs → r .ended ≡ true
   calls-end stop w h = let z : ⊥ = omega arith in absurd z
   calls-end (call n k) w h = far-end (far-on (headway small n (w .0)) (λ e. calls-ended k e) (λ i. calls-move k (w .1) i)) h
 
@@ -75,5 +75,5 @@ pieces-joined c script small = record {
   ends = λ m p outs pieces t r k w h. calls-end small k w h;
 }
   where
-    all : {t : Model} {r : Course} {outs pieces : List (List ℕ)} → Calls c script (fresh c) started outs pieces t r → Onward c script (fresh c) started t r (joined pieces)
+    all : {t : Model} {r : Course} {outs pieces : List (List ℕ)} → Resumed c script (fresh c) started outs pieces t r → Onward c script (fresh c) started t r (joined pieces)
     all k = calls-onward small k (started-usable c)

@@ -21,11 +21,11 @@ use Rattle.rules.specs.Step.{actOf, runOf}
 use Rattle.demand3.proofs.Check.{sound-of, step-sound}
 use Rattle.demand3.proofs.Steps.{act-sound}
 use Rattle.text.specs.Text.{lineOf, linesOf, scriptText}
-use Rattle.running.specs.declared.Course.{Course}
-use Rattle.running.specs.Running.{scriptAt, isUsable, Usable, Piece, goneOn, pieceOf, courseOf, Ran, restText, restOf}
-use Rattle.running.proofs.Laws.{script-long, One, View, over, one, view}
-use Rattle.running.proofs.Pieces.{prefixed, gone-full, gone-closed, gone-next}
-use Rattle.running.proofs.Promise.{usable-of, piece-ended, piece-long, piece-usable, piece-refused}
+use Rattle.pieces.specs.declared.Course.{Course}
+use Rattle.pieces.specs.Pieces.{scriptAt, isUsable, Usable, Piece, goneOn, pieceOf, courseOf, Ran, restText, restOf}
+use Rattle.pieces.proofs.Laws.{script-long, One, View, over, one, view}
+use Rattle.pieces.proofs.Pieces.{prefixed, gone-full, gone-closed, gone-next}
+use Rattle.pieces.proofs.Promise.{usable-of, piece-ended, piece-long, piece-usable, piece-refused}
 
 -- ---- a call that goes on
 

@@ -17,12 +17,12 @@ use Rattle.rules.specs.Model.{Model}
 use Rattle.rules.specs.Sound.{isSound}
 use Rattle.demand3.proofs.Check.{of-sound}
 use Rattle.text.specs.Text.{endText}
-use Rattle.running.specs.declared.Course.{Course}
-use Rattle.running.specs.Running.{scriptAt, isUsable, Usable, Piece, goneOn, stopped, pieceOf, courseOf, Ran}
-use Rattle.running.specs.Steps.{unmoved, refused, going, finished, Underway, Stuck, Closed}
-use Rattle.running.proofs.Laws.{script-end, script-refused, script-long}
-use Rattle.running.proofs.Pieces.{prefixed, still, gone-full, gone-closed}
-use Rattle.running.proofs.Loop.{puts-length, puts-none, Going}
+use Rattle.pieces.specs.declared.Course.{Course}
+use Rattle.pieces.specs.Pieces.{scriptAt, isUsable, Usable, Piece, goneOn, stopped, pieceOf, courseOf, Ran}
+use Rattle.pieces.specs.Steps.{unmoved, refused, going, finished, Underway, Stuck, Closed}
+use Rattle.pieces.proofs.Laws.{script-end, script-refused, script-long}
+use Rattle.pieces.proofs.Pieces.{prefixed, still, gone-full, gone-closed}
+use Rattle.pieces.proofs.Loop.{puts-length, puts-none, Going}
 
 -- ---- a course that is usable
 
