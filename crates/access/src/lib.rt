@@ -10,6 +10,7 @@ use rules::Core;
 use rules::Outcome;
 use verdicts::Access;
 
+// Whether an access of this kind may have the width w.
 fn fits_access(kind: u32, w: u32) -> bool
     ensures { λ r. ⌜ r ≡ fitsAccess kind w ⌝ }
 {
@@ -19,6 +20,7 @@ fn fits_access(kind: u32, w: u32) -> bool
     map::checks::is_width(w)
 }
 
+// What an access of this kind asks of the guard.
 fn purpose_of(kind: u32) -> Access
     ensures { λ r. ⌜ r ≡ purposeOf kind ⌝ }
 {

@@ -1,6 +1,8 @@
 // The commands. Every event is run by the call of its kind, and by `step` besides.
 use super::parse::next_word;
 use super::parse::skip_spaces;
+use super::pieces::scripted;
+use super::pieces::too_long;
 use super::poke::filled;
 use super::poke::poked;
 use super::show::answer;
@@ -98,6 +100,8 @@ fn next_state(s: State, line: &[u8], k: Command) -> State {
         0x66696c6c => filled(s), // fill
         0x706f6b65 => poked(s, k.field, k.b, k.c), // poke
         0x6d61736b => masks(line, s), // mask
+        0x73637269 => scripted(line, s, k.a, k.b), // scri
+        0x6c6f6e67 => too_long(line, s, k.a, k.b), // long
         _ => acted(s, line, k),
     }
 }

@@ -6,6 +6,7 @@ use model::State;
 
 mod command;
 mod parse;
+mod pieces;
 mod poke;
 mod same;
 mod show;

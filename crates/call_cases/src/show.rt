@@ -4,12 +4,24 @@ use super::same::same_state;
 use libc::STDOUT_FILENO;
 use model::Reply;
 use model::State;
+use run::Progress;
 
 fn text(bytes: &[u8]) {
     io::write_all(STDOUT_FILENO, bytes);
 }
 
+fn first(bytes: &[u8], count: usize) {
+    if count <= bytes.len() {
+        text(&bytes[..count]);
+    }
+}
+
 fn number(n: u32) {
+    text(b" ");
+    io::print_decimal(STDOUT_FILENO, n as u64);
+}
+
+fn size(n: usize) {
     text(b" ");
     io::print_decimal(STDOUT_FILENO, n as u64);
 }
@@ -51,4 +63,22 @@ pub fn masks(line: &[u8], s: State) -> State {
     number(bits::bit_of(m.spsel));
     text(b"\n");
     s
+}
+
+// The refusal, the offset, the number of events, the bytes written, 1 if the script has ended; `same` if the state is the one before. Then the
+// text written.
+pub fn ran(line: &[u8], before: State, r: Progress, out: &[u8]) {
+    text(line);
+    text(b":");
+    number(r.refusal);
+    size(r.at);
+    number(r.events);
+    size(r.wrote);
+    number(bits::bit_of(r.ended));
+    let after = r.state;
+    if same_state(before, after) {
+        text(b" same");
+    }
+    text(b"\n");
+    first(out, r.wrote);
 }

@@ -35,7 +35,7 @@ usable-of c m p e =
 -- ---- which piece it is
 
 module _ (c : Chip) (script : List ℕ) (m : Model) (p : Course) (room : ℕ) where
-  pub piece-ended : p .ended ≡ true → pieceOf c script m p room ≡ stopped true (p .refusal) m p
+  pub piece-ended : p .ended ≡ true → pieceOf c script m p room ≡ stopped (p .refusal) m p
   unfolding pieceOf
   piece-ended e = rw e
 
@@ -47,7 +47,7 @@ module _ (c : Chip) (script : List ℕ) (m : Model) (p : Course) (room : ℕ) wh
   unfolding pieceOf
   piece-usable e h u = simp (e, le-ltb 65536 (length script) h, u)
 
-  pub piece-refused : p .ended ≡ false → length script ≤ 65536 → isUsable c m p ≡ false → pieceOf c script m p room ≡ stopped true 16 m p
+  pub piece-refused : p .ended ≡ false → length script ≤ 65536 → isUsable c m p ≡ false → pieceOf c script m p room ≡ stopped 16 m p
   unfolding pieceOf
   piece-refused e h u = simp (e, le-ltb 65536 (length script) h, u)
 

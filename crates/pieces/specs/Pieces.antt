@@ -87,17 +87,17 @@ goneOn c bytes m at events room =
     (fitting room (suc events) (answersOf c m (scriptAt bytes at .events)))
     (allFit room (suc events) (answersOf c m (scriptAt bytes at .events)))
 
--- nothing runs, and nothing is written
-abbrev pub stopped : Bool → ℕ → Model → Course → Piece
-stopped ended refusal m p = record { model = m; at = p .at; events = p .events; ended = ended; refusal = refusal; text = [] }
+-- nothing runs and nothing is written, and the script has ended
+abbrev pub stopped : ℕ → Model → Course → Piece
+stopped refusal m p = record { model = m; at = p .at; events = p .events; ended = true; refusal = refusal; text = [] }
 
 -- A course that has ended is handed back as it is. "in a script 15 first": a script that is too long says so whatever the state. Else a
 -- state that is not sound, or a count of events that no script has, is refused by 16, and the course ends.
 unfoldable pub pieceOf : Chip → List ℕ → Model → Course → ℕ → Piece
 pieceOf c bytes m p room =
-    cond (p .ended) (stopped true (p .refusal) m p)
+    cond (p .ended) (stopped (p .refusal) m p)
     (cond (ltb 65536 (length bytes) || isUsable c m p) (goneOn c bytes m (p .at) (p .events) room)
-    (stopped true 16 m p))
+    (stopped 16 m p))
 
 -- ---- the promise
 
