@@ -23,8 +23,7 @@ use Rattle.rules.specs.SystemBlock.{keptFaultstat}
 use Rattle.rules.specs.Sound.{SoundSystem, Sound}
 use Rattle.rules.specs.Events.{levelled, lineCall, nmiCall, tickCall, escalates, forced, raised, faultException, faultStatus, faultRaised, faultAt, faultCall, svcAt, svcCall, faultmaskWritten, basepriRaised, controlWritten, specialWritten, specialAt, specialCall}
 use Rattle.demand3.proofs.Words.{inside, faultstatFields, faultstat-with, hfaultstat-with}
-use Rattle.rules.specs.Laws.{all, in-all}
-use Rattle.demand3.proofs.Exceptions.{is-line, line-stands}
+use Rattle.rules.specs.Laws.{all, in-all, is-line, line-stands}
 use Rattle.demand3.proofs.Parts.{flags-set, kept-byte-twice}
 use Rattle.demand3.proofs.Quiet.{Quiet, stay, put-level, put-masks, put-timer, put-system, pend-quiet}
 

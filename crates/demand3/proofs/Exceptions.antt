@@ -47,15 +47,6 @@ module _ (c : Chip) (n : ℕ) where
   pub line-bounds : T (isLine c n) → (16 ≤ n) × (n < flagCount c)
   line-bounds t = let p = both (leb 16 n) (ltb n (flagCount c)) t in (leb→le 16 n (p .0), ltb→lt n (flagCount c) (p .1))
 
-  pub is-line : 16 ≤ n → n < flagCount c → T (isLine c n)
-  is-line l h = join (leb 16 n) (ltb n (flagCount c)) (le→leb 16 n l) (lt→ltb n (flagCount c) h)
-
-  -- a flag of any kind may stand at a line
-  pub line-stands : (place : Place) → T (isLine c n) → T (stands c place n)
-  line-stands Exception t = or-right (isIn n systemExceptions) (isLine c n) t
-  line-stands Enable t = or-right (isIn n (4 ∷ 5 ∷ 6 ∷ [])) (isLine c n) t
-  line-stands Line t = t
-
   system-or-line : (xs : List ℕ) → T (all (λ k. ltb k 16) xs) → T (isIn n xs || isLine c n) → n < flagCount c
   system-or-line xs small t = go (either (isIn n xs) (isLine c n) t)
     where

@@ -25,7 +25,8 @@ use Rattle.rules.specs.Sound.{Nested, Sound}
 use Rattle.rules.specs.Events.{pend}
 use Rattle.rules.specs.Nesting.{chosen, entered, returnedMasks, repended, returned}
 use Rattle.demand3.specs.Demand3.{dropTop, SamePriorities}
-use Rattle.demand3.proofs.Exceptions.{line-stands, stands-below, fits}
+use Rattle.rules.specs.Laws.{line-stands}
+use Rattle.demand3.proofs.Exceptions.{stands-below, fits}
 use Rattle.demand3.proofs.Parts.{flags-set, down-length, down-push, down-top, down-pop, down-place, place-down, places-push, places-pop, nested-push, nested-pop}
 use Rattle.demand3.proofs.Check.{depth-fits}
 use Rattle.demand3.proofs.Quiet.{stay, pend-quiet, kept-core}

@@ -24,7 +24,8 @@ use Rattle.rules.specs.Chip.{flagCount, exceptionCount, hasByte, stands}
 use Rattle.rules.specs.Model.{down, top}
 use Rattle.rules.specs.Sound.{Flags, PriorityBytes, Nested, Places}
 use Rattle.demand3.specs.Demand3.{dropTop}
-use Rattle.demand3.proofs.Exceptions.{is-line, line-stands, fits}
+use Rattle.rules.specs.Laws.{is-line, line-stands}
+use Rattle.demand3.proofs.Exceptions.{fits}
 
 pub getD-fresh {ℓ} : {A : Type ℓ} (k n : ℕ) (a : A) → getD (replicate k a) n a ≡ a
 getD-fresh zero n a = refl

@@ -35,7 +35,7 @@ use Rattle.rules.specs.Reads.{timerRead, afterRead}
 use Rattle.rules.specs.Writes.{timerWritten, clearable, bankWritten, withByte, withBytes, setOrClear, intctrlWritten, syshndctrlWritten, apintWritten, swtrigWritten, storedWritten, systemWritten, wordWritten, byteWritten}
 use Rattle.rules.specs.Registers.{accessRefusal, readCall, freeWrite, written, writeCall}
 use Rattle.demand3.proofs.Words.{sysctrl-twice, cfgctrl-twice, faultstat-without, hfaultstat-without}
-use Rattle.demand3.proofs.Exceptions.{is-line, line-stands}
+use Rattle.rules.specs.Laws.{is-line, line-stands}
 use Rattle.demand3.proofs.Parts.{flags-set, flags-put, bytes-set}
 use Rattle.demand3.proofs.Quiet.{Quiet, stay, put-pending, put-enabled, put-priority, put-group, put-timer, put-guard, put-system}
 

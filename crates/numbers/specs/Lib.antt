@@ -1,3 +1,4 @@
 pub mod Answers
 pub mod Number
 pub mod NumberLaws
+pub mod Window

@@ -48,13 +48,9 @@ unfolding groupsAt
 groupsAt-step bytes at zero h = let z : ⊥ = omega arith in absurd z
 groupsAt-step bytes at (suc l) h = let e : suc l - 1 ≡ l = omega arith in rw e
 
-pub joined-value : (g v next : ℕ) → (v ≡ 0 → ⊥) → g + 128 * v < 2 ^ 32 → joined g (Value v next) ≡ Value (g + 128 * v) next
+joined-value : (g v next : ℕ) → (v ≡ 0 → ⊥) → g + 128 * v < 2 ^ 32 → joined g (Value v next) ≡ Value (g + 128 * v) next
 unfolding joined
 joined-value g v next h k = simp (ne-eqb v 0 h, lt-ltb (g + 128 * v) (2 ^ 32) k)
-
-pub joined-large : (g v next : ℕ) → (v ≡ 0 → ⊥) → 2 ^ 32 ≤ g + 128 * v → joined g (Value v next) ≡ Bad
-unfolding joined
-joined-large g v next h k = simp (ne-eqb v 0 h, le-ltb (g + 128 * v) (2 ^ 32) k)
 
 -- from `at` to `next` the bytes are this spelling
 pub record Spells (bytes : List ℕ) (at : ℕ) (spelling : List ℕ) (next : ℕ) : Type 0 where

@@ -1,13 +1,16 @@
 -- Laws of these definitions that the code of every chip and the third demand both use.
-use Prim.Native.Nat.{ℕ, _<_}
+use Prim.Native.Nat.{ℕ, _≤_, _<_}
 use mathlib.Core.Path.{_≡_, refl, sym, subst}
 use mathlib.Core.Logic.{_⊎_, inl, inr}
 use mathlib.Core.List.{List, [], _∷_, List·Memᴰ, List·Memᴰ·head, List·Memᴰ·tail, List·Memᴰ·not-nil, List·Memᴰ·cases-cons}
 use mathlib.Core.Bool.{Bool, true, false, _&&_, _||_}
 use native.Mathlib.Omega.{arith}
-use lib.Dec.{T, ltb, eqb, ltb→lt, eqb→eq, eqb-refl}
-use Rattle.bools.specs.Tests.{is-false, both, either}
-use Rattle.rules.specs.Chip.{isIn}
+use lib.Dec.{T, ltb, leb, eqb, ltb→lt, lt→ltb, le→leb, eqb→eq, eqb-refl}
+use Rattle.bools.specs.Tests.{is-false, both, join, either, or-right}
+use Rattle.rules.specs.declared.Chip.{Chip}
+use Rattle.rules.specs.declared.Place.{Place}
+use Rattle.rules.specs.declared.Place.the-variants.{Exception, Enable, Line}
+use Rattle.rules.specs.Chip.{isIn, flagCount, systemExceptions, isLine, stands}
 use Rattle.rules.specs.Nesting.{linkFits}
 
 -- ---- a number in a list
@@ -42,6 +45,17 @@ in-all p n (x ∷ xs) t i = go (both (p x) (all p xs) t) (λ u k. in-all p n xs 
     go : T (p x) × T (all p xs) → (T (all p xs) → T (isIn n xs) → T (p n)) → T (eqb n x) ⊎ T (isIn n xs) → T (p n)
     go u below (inl e) = subst (λ y. T (p y)) (sym (eqb→eq n x e)) (u .0)
     go u below (inr k) = below (u .1) k
+
+-- ---- lines
+
+pub is-line : (c : Chip) (n : ℕ) → 16 ≤ n → n < flagCount c → T (isLine c n)
+is-line c n l h = join (leb 16 n) (ltb n (flagCount c)) (le→leb 16 n l) (lt→ltb n (flagCount c) h)
+
+-- a flag of any kind may stand at a line
+pub line-stands : (c : Chip) (n : ℕ) (place : Place) → T (isLine c n) → T (stands c place n)
+line-stands c n Exception t = or-right (isIn n systemExceptions) (isLine c n) t
+line-stands c n Enable t = or-right (isIn n (4 ∷ 5 ∷ 6 ∷ [])) (isLine c n) t
+line-stands c n Line t = t
 
 -- ---- return
 

@@ -30,7 +30,7 @@ fn is_usable(
     false
 }
 
-// The state is not tested at each event: a sound state is sound after any event (`act-sound` of the rules).
+// The state is not tested at each event: a sound state is sound after any event (`act-sound` of `demand3`).
 fn run_events(
     chip: Chip,
     script: &[u8],

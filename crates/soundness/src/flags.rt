@@ -19,11 +19,13 @@ fn flag_fits(flag: bool, chip: Chip, place: Place, n: usize) -> bool
     true
 }
 
-pub fn flags_sound(chip: Chip, place: Place, flags: &[bool]) -> bool
-    ensures { λ r. ⌜ r ≡ every (flagSound chip place (now (flags .entry))) (length (now (flags .entry))) ⌝ }
+// Only numbers below 16 are tried: the others that a chip holds flags for are lines, where a flag of any kind may stand.
+fn flags_sound(chip: Chip, place: Place, flags: &[bool]) -> bool
+    requires { ⌜ length (now flags) ≡ flagCount chip ⌝ }
+    ensures { λ r. ⌜ r ≡ every (flagSound chip place (now (flags .entry))) (flagCount chip) ⌝ }
 {
     let mut n = 0;
-    while n < flags.len() {
+    while n < 16 {
         if !flag_fits(flags[n], chip, place, n) {
             return false;
         }

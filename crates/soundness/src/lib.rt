@@ -4,6 +4,5 @@ mod flags;
 mod nest;
 
 pub use bytes::bytes_sound;
-pub use flags::flags_sound;
 pub use flags::sound_flags;
 pub use nest::sound_nest;

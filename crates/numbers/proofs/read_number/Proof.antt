@@ -1,4 +1,4 @@
--- A first group below 128 is the whole number; else the groups are read by the recursion, five at most.
+-- A first group below 128 is the whole number.
 use mathlib.Core.Path.{_≡_, ap}
 use native.Mathlib.Omega.{arith}
 use lib.ListN.{getD}
@@ -31,13 +31,13 @@ returns c =
     (rw (groupsAt-step (s .args .bytes .now) (s .args .at) 5 (omega arith))
     (simp (lt-ltb _ _ (c .before .before .if1 .taken), lt-ltb (getD (s .args .bytes .now) (s .args .at) 0) 128 (omega arith))))
 
-read-groups-requires : tie.Need-read-groups-requires
-read-groups-requires c κs = search needs
+read-long-requires : tie.Need-read-long-requires
+read-long-requires c κs = search needs
 
 returns-2 : tie.Need-returns-2
 unfolding numberAt
-returns-2 c = answered (c .read-groups .ensures)
+returns-2 c = answered (c .read-long .ensures)
 
 pub read-number-spec : {M : Type 1} → statement M
 read-number-spec =
-    tie.close (tie.spec shared-slice-read-first cast-first add-t9 returns read-groups-requires returns-2)
+    tie.close (tie.spec shared-slice-read-first cast-first add-t9 returns read-long-requires returns-2)

@@ -1,20 +1,12 @@
--- Each list is tested over its length, which is the chip's; the first that fails decides.
-use mathlib.Core.Path.{sym, ap, _∙_}
+-- Each list is tested, and the first that fails decides.
+use mathlib.Core.Path.{sym, _∙_}
 use mathlib.Core.Bool.{and-false}
 use borrow.Author.Tests.{not-true, not-false}
-use Rattle.bools.specs.Every.{every}
 use Rattle.rules.specs.Sound.{soundFlags}
 use Rattle.bools.specs.Tests.{and-true-of, and-last}
 use borrow.Author.Needs.{needs}
 use Rattle.soundness.proofs.flags.sound_flags.Statement.{statement}
 use Rattle.soundness.proofs.flags.sound_flags.Tie as tie
-
--- an earlier place of the function, from a later one
-abbrev at-start : tie.After-flags-sound → tie.Start
-at-start c = c .before .before .before .before .before
-
-abbrev at-start-2 : tie.After-flags-sound4 → tie.Start
-at-start-2 c = at-start (c .before .before .before .before .before .before)
 
 flags-sound-requires : tie.Need-flags-sound-requires
 flags-sound-requires c κs = search needs
@@ -22,8 +14,7 @@ flags-sound-requires c κs = search needs
 returns : tie.Need-returns
 unfolding soundFlags
 returns c =
-    let s = at-start (c .before) in
-    simp (ap (every _) (sym (s .pre .0)) ∙ sym (c .before .flags-sound .ensures) ∙ not-true _ (c .if1 .taken))
+    simp (sym (c .before .flags-sound .ensures) ∙ not-true _ (c .if1 .taken))
 
 flags-sound-requires-2 : tie.Need-flags-sound-requires-2
 flags-sound-requires-2 c κs = search needs
@@ -31,8 +22,7 @@ flags-sound-requires-2 c κs = search needs
 returns-2 : tie.Need-returns-2
 unfolding soundFlags
 returns-2 c =
-    let s = at-start (c .before .before .before) in
-    simp (ap (every _) (sym (s .pre .1)) ∙ sym (c .before .flags-sound2 .ensures) ∙ not-true _ (c .if2 .taken), and-false)
+    simp (sym (c .before .flags-sound2 .ensures) ∙ not-true _ (c .if2 .taken), and-false)
 
 flags-sound-requires-3 : tie.Need-flags-sound-requires-3
 flags-sound-requires-3 c κs = search needs
@@ -40,8 +30,7 @@ flags-sound-requires-3 c κs = search needs
 returns-3 : tie.Need-returns-3
 unfolding soundFlags
 returns-3 c =
-    let s = at-start (c .before .before .before .before .before) in
-    simp (ap (every _) (sym (s .pre .2)) ∙ sym (c .before .flags-sound3 .ensures) ∙ not-true _ (c .if3 .taken), and-false)
+    simp (sym (c .before .flags-sound3 .ensures) ∙ not-true _ (c .if3 .taken), and-false)
 
 flags-sound-requires-4 : tie.Need-flags-sound-requires-4
 flags-sound-requires-4 c κs = search needs
@@ -49,11 +38,10 @@ flags-sound-requires-4 c κs = search needs
 returns-4 : tie.Need-returns-4
 unfolding soundFlags
 returns-4 c =
-    let s = at-start-2 c in
-    let pending = ap (every _) (sym (s .pre .0)) ∙ sym (c .before .before .before .before .before .before .flags-sound .ensures) ∙ not-false _ (c .before .before .before .before .before .if1 .left) in
-    let active = ap (every _) (sym (s .pre .1)) ∙ sym (c .before .before .before .before .flags-sound2 .ensures) ∙ not-false _ (c .before .before .before .if2 .left) in
-    let enabled = ap (every _) (sym (s .pre .2)) ∙ sym (c .before .before .flags-sound3 .ensures) ∙ not-false _ (c .before .if3 .left) in
-    c .flags-sound4 .ensures ∙ ap (every _) (s .pre .3) ∙ and-last (and-true-of (and-true-of pending active) enabled)
+    let pending = sym (c .before .before .before .before .before .before .flags-sound .ensures) ∙ not-false _ (c .before .before .before .before .before .if1 .left) in
+    let active = sym (c .before .before .before .before .flags-sound2 .ensures) ∙ not-false _ (c .before .before .before .if2 .left) in
+    let enabled = sym (c .before .before .flags-sound3 .ensures) ∙ not-false _ (c .before .if3 .left) in
+    c .flags-sound4 .ensures ∙ and-last (and-true-of (and-true-of pending active) enabled)
 
 pub sound-flags-spec : {M : Type 1} → statement M
 sound-flags-spec =
