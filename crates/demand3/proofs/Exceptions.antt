@@ -7,8 +7,8 @@ use mathlib.Core.Bool.{_||_}
 use native.Mathlib.Nat.{eq-or-lt-of-le}
 use native.Mathlib.Omega.{arith}
 use lib.ListN.{length}
-use lib.Dec.{T, ltb, leb, leb→le, ltb→lt, le→leb, lt→ltb}
-use Rattle.bools.specs.Tests.{both, join, either, or-right}
+use lib.Dec.{T, ltb, leb, leb→le, ltb→lt}
+use Rattle.bools.specs.Tests.{both, either}
 use Rattle.priority.specs.Order.{Distinct, pigeonhole}
 use Rattle.rules.specs.declared.Chip.{Chip}
 use Rattle.rules.specs.declared.Place.{Place}

@@ -7,11 +7,11 @@ use mathlib.Core.Bool.{Bool, true, false, cond}
 use native.Mathlib.Omega.{arith}
 use lib.ListN.{length, getD}
 use lib.Dec.{eqb, ltb}
-use borrow.Author.Tests.{lt-ltb, le-ltb, ne-eqb, ltb-true, ltb-false, eqb-false}
+use borrow.Author.Tests.{lt-ltb, le-ltb, ltb-true, ltb-false}
 use Rattle.numbers.specs.declared.Number.{Number}
 use Rattle.numbers.specs.declared.Number.the-variants.{Value, Bad}
 use Rattle.numbers.specs.Number.{groups, numberBytes, joined, groupsAt, numberAt}
-use Rattle.numbers.specs.NumberLaws.{Bytes, number-read, groupsAt-step}
+use Rattle.numbers.specs.NumberLaws.{Bytes, number-read}
 
 -- a number as one word: 2^32 where there is none
 abbrev pub orNone : Number → ℕ
