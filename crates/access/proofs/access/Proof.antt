@@ -7,6 +7,10 @@ use borrow.Author.Needs.{needs}
 use Rattle.access.proofs.access.Statement.{statement}
 use Rattle.access.proofs.access.Tie as tie
 
+-- an earlier place of the function, from a later one
+abbrev at-then3 : tie.After-accepted → tie.Then3
+at-then3 c = c .before .before .before .before .before
+
 refused-requires : tie.Need-refused-requires
 refused-requires c κs = search needs
 
@@ -34,7 +38,7 @@ accepted-requires c κs = search needs
 
 returns-2 : tie.Need-returns-2
 unfolding accessAt
-returns-2 c = λ m. simp (c .accepted .ensures, c .before .verdict .ensures, c .before .before .before .purpose-of .ensures, c .before .before .is-privileged .ensures, toZ-ofZ (c .before .before .before .before .before .before .before .before .before .before .fits .limit), le-ltb _ _ (c .before .before .before .before .before .before .before .before .before .if1 .left), sym (c .before .before .before .before .before .before .before .before .fits-access .ensures) ∙ c .before .before .before .before .before .before .before .if2 .taken, sym (c .before .before .before .before .before .before .is-aligned .ensures) ∙ c .before .before .before .before .before .if3 .taken)
+returns-2 c = λ m. simp (c .accepted .ensures, c .before .verdict .ensures, c .before .before .before .purpose-of .ensures, c .before .before .is-privileged .ensures, toZ-ofZ (at-then3 c .before .before .before .before .before .fits .limit), le-ltb _ _ (at-then3 c .before .before .before .before .if1 .left), sym (at-then3 c .before .before .before .fits-access .ensures) ∙ at-then3 c .before .before .if2 .taken, sym (at-then3 c .before .is-aligned .ensures) ∙ at-then3 c .if3 .taken)
 
 refused-requires-2 : tie.Need-refused-requires-2
 refused-requires-2 c κs = search needs

@@ -27,10 +27,11 @@ same-length c = c .before .before .put-decimal .kept .0 ∙ simp length-set
 
 returns : tie.Need-returns
 returns c =
-    let s = c .before .before .before .before .before .before .before in
+    let t = c .before .before .before .before .before in
+    let s = t .before .before in
     let p = c .before .before .put-decimal in
     let f = toZ-ofZ (s .fits .z) in (
-      rw (signed-below (s .args .z) (simp f at (c .before .before .before .before .before .if1 .taken)), ← simp f at (c .before .before .before .magnitude .ensures))
+      rw (signed-below (s .args .z) (simp f at (t .if1 .taken)), ← simp f at (c .before .before .before .magnitude .ensures))
           (puts-append (omega arith) (puts-one (s .args .at) minus (s .args .out .now) (omega arith)) (p .ensures .0)),
       omega arith,
     )
@@ -46,10 +47,11 @@ same-length-2 c = search needs
 
 returns-2 : tie.Need-returns-2
 returns-2 c =
-    let s = c .before .before .before .before .before .before .before in
+    let t = c .before .before .before .before .before in
+    let s = t .before .before in
     let p = c .before .before .put-decimal2 in
     let f = toZ-ofZ (s .fits .z) in (
-      rw (signed-above (s .args .z) (simp f at (c .before .before .before .before .before .if1 .left)), ← simp f at (c .before .before .before .magnitude2 .ensures)) (p .ensures .0),
+      rw (signed-above (s .args .z) (simp f at (t .if1 .left)), ← simp f at (c .before .before .before .magnitude2 .ensures)) (p .ensures .0),
       omega arith,
     )
 

@@ -6,18 +6,18 @@ use borrow.Author.Needs.{needs}
 use Rattle.faults.proofs.raised.Statement.{statement}
 use Rattle.faults.proofs.raised.Tie as tie
 
--- an earlier place of the function, from a later one
+-- earlier places of the function, from later ones
 abbrev at-escalates : tie.After-accepted2 → tie.After-escalates
 at-escalates c = c .before .before .before .before .before .before
 
-abbrev at-escalates-2 : tie.After-accepted → tie.After-escalates
-at-escalates-2 c = c .before .before .before .before .before .before .before
+abbrev at-then1 : tie.After-accepted → tie.Then1
+at-then1 c = c .before .before .before .before .before .before
 
 abbrev at-start : tie.After-accepted2 → tie.Start
 at-start c = (at-escalates c) .before .before .before .before
 
 abbrev at-start-2 : tie.After-accepted → tie.Start
-at-start-2 c = (at-escalates-2 c) .before .before .before .before
+at-start-2 c = at-then1 c .before .before .before .before .before
 
 escalates-requires : tie.Need-escalates-requires
 escalates-requires c κs = search needs
@@ -36,7 +36,7 @@ same-length c = search needs
 
 returns : tie.Need-returns
 unfolding raised escalates
-returns c = λ m. simp (c .accepted .ensures, c .before .before .before .store-flag .ensures, c .before .before .before .before .before .forced .ensures, simp (toZ-ofZ ((at-start-2 c) .fits .limit)) at (sym ((at-escalates-2 c) .escalates .ensures) ∙ c .before .before .before .before .before .before .if1 .taken))
+returns c = λ m. simp (c .accepted .ensures, c .before .before .before .store-flag .ensures, c .before .before .before .before .before .forced .ensures, simp (toZ-ofZ ((at-start-2 c) .fits .limit)) at (sym (at-then1 c .before .escalates .ensures) ∙ at-then1 c .if1 .taken))
 
 store-flag-requires-2 : tie.Need-store-flag-requires-2
 store-flag-requires-2 c κs = search needs

@@ -38,10 +38,14 @@ shared-slice-read-bit-of c = omega arith
 bit-of-requires : tie.Need-bit-of-requires Inv-loop μ-loop
 bit-of-requires c κs = tt
 
+-- the start, from a round's end
+abbrev start : tie.After-bit-of Inv-loop μ-loop → tie.Start Inv-loop μ-loop
+start c = c .before .before .before .before .before .before .before
+
 -- at most 31 flags are read so far
 small : (c : tie.After-bit-of Inv-loop μ-loop) → c .before .before .before .loop .word < 2 ^ 31
 small c =
-    let a = c .before .before .before .before .before .before .before .args in
+    let a = start c .args in
     let l = c .before .before .before .loop in
     let h : a .at + 32 - l .i ≤ 31 = omega arith in
     omega (arith, word-lt (a .flags .now) (l .i) (a .at + 32 - l .i), pow-mono h)
@@ -51,7 +55,7 @@ mul-word c = omega (arith, small c)
 
 add-word : tie.Need-add-word Inv-loop μ-loop
 add-word c =
-    let a = c .before .before .before .before .before .before .before .args in
+    let a = start c .args in
     omega (arith, small c, bit-le (on (a .flags .now) (c .before .before .before .loop .i - 1)))
 
 loop-less : tie.Need-loop-less Inv-loop μ-loop
@@ -59,7 +63,7 @@ loop-less c = omega arith
 
 loop-again : tie.Need-loop-again Inv-loop μ-loop
 loop-again c =
-    let a = c .before .before .before .before .before .before .before .args in
+    let a = start c .args in
     let l = c .before .before .before .loop in (
       omega arith,
       (

@@ -40,10 +40,11 @@ loop-less c = omega (arith, within (c .before .before .before .before))
 
 loop-again : tie.Need-loop-again Inv-loop μ-loop
 loop-again c =
-    let a = c .before .before .before .before .before .before .before .before .args in
-    let l = c .before .before .before .before .before .before .loop in
+    let round = c .before .before .before .before .before in
+    let a = round .before .before .before .args in
+    let l = round .before .loop in
     let k = a .at + 32 - l .i in
-    let s = put-step (a .value) k (l .flags) (l .i) (l .w) (l .inv .1 .1 .1 .0) (c .before .before .before .before .before .loop-test .taken) in
+    let s = put-step (a .value) k (l .flags) (l .i) (l .w) (l .inv .1 .1 .1 .0) (round .loop-test .taken) in
     let p = c .before .before .put-flag .ensures in
     let e : k - 1 ≡ a .at + 32 - (l .i + 1) = omega arith in (
       omega arith,

@@ -50,11 +50,12 @@ get-word-requires-8 c κs = search needs
 
 returns : tie.Need-returns
 returns c =
+    let fourth = c .before .before .before .before in
     simp (
-      c .before .before .before .before .before .before .before .get-word .ensures,
-      c .before .before .before .before .before .before .get-word2 .ensures,
-      c .before .before .before .before .before .get-word3 .ensures,
-      c .before .before .before .before .get-word4 .ensures,
+      fourth .before .before .before .get-word .ensures,
+      fourth .before .before .get-word2 .ensures,
+      fourth .before .get-word3 .ensures,
+      fourth .get-word4 .ensures,
       c .before .before .before .get-word5 .ensures,
       c .before .before .get-word6 .ensures,
       c .before .get-word7 .ensures,

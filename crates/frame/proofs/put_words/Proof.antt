@@ -41,8 +41,9 @@ loop-less c = omega arith
 
 loop-again : tie.Need-loop-again Inv-loop μ-loop
 loop-again c =
-    let a = c .before .before .before .before .before .before .before .before .args in
-    let l = c .before .before .before .before .before .before .loop in
+    let round = c .before .before .before .before .before in
+    let a = round .before .before .before .args in
+    let l = round .before .loop in
     let p = c .before .before .put-word in (
       omega arith,
       (

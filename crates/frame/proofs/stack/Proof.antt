@@ -67,9 +67,10 @@ same-length c = search needs
 returns-2 : tie.Need-returns-2
 unfolding stacked stackedWindow written
 returns-2 c =
-    let s = c .before .before .before .before .before .before .before in
+    let ordered = c .before .before .before .before .before in
+    let s = ordered .before .before in
     let a = s .before .before .before .before .before .args in
-    let f = c .before .before .before .before .before .before .frame-at .ensures in
+    let f = ordered .before .frame-at .ensures in
     let n = eq-eqb _ _ (refusal (s .before) ∙ s .if1 .left) in
     let k = known s .holds in
     let o = frameAt (a .align) (a .sp) - a .base in (
@@ -78,7 +79,7 @@ returns-2 c =
         f,
         n,
         c .before .before .put-words .ensures,
-        c .before .before .before .before .before .in-order .ensures,
+        ordered .in-order .ensures,
         post-is o (o + 32) (a .window .now) (omega (arith, k .from, k .upto)),
       ),
     )

@@ -14,6 +14,13 @@ use Rattle.guarded.proofs.Laws.{tested, passes, refuses}
 use Rattle.guarded.proofs.step.Statement.{statement}
 use Rattle.guarded.proofs.step.Tie as tie
 
+-- where the execution priority is known, from where the event acts; where it has acted
+abbrev ready : tie.After-act-arg6 → tie.After-execution
+ready c = c .before .before .before .before .before .before
+
+abbrev acted : tie.After-slice-known12 → tie.After-act
+acted c = c .before .before .before .before .before .before .before .before .before .before .before .before
+
 -- where the test is passed: the entry of the call, its model, and that it is sound
 abbrev begun : tie.Else1 → tie.Start
 begun c = c .before .before .before .before .before .before .before .before .before .before .before .before .before .before
@@ -59,8 +66,9 @@ execution-requires c κs = let h = sound (c .before .before) in let d = depth-fi
 
 act-requires : tie.Need-act-requires
 act-requires c κs =
-    let e = c .before .before .before .before .before .before .before .before .before in
-    record { lines = begun e .pre .lines; sound = sound e; priority = toZ-ofZ (search needs) ∙ c .before .before .before .before .before .before .execution .ensures ∙ execution-nest (sound e) }
+    let x = ready c in
+    let e = x .before .before .before in
+    record { lines = begun e .pre .lines; sound = sound e; priority = toZ-ofZ (search needs) ∙ x .execution .ensures ∙ execution-nest (sound e) }
 
 same-length-7 : tie.Need-same-length-7
 same-length-7 c = search needs
@@ -81,7 +89,7 @@ same-length-12 : tie.Need-same-length-12
 same-length-12 c = search needs
 
 returns-2 : tie.Need-returns-2
-returns-2 c = c .before .before .before .before .before .before .before .before .before .before .before .before .act .ensures ∙ passes _ _ _ (passed (c .before .before .before .before .before .before .before .before .before .before .before .before .before .before .before .before .before .before .before .before .before .before))
+returns-2 c = acted c .act .ensures ∙ passes _ _ _ (passed (ready (acted c .before) .before .before .before))
 
 pub step-spec : {M : Type 1} → statement M
 step-spec =

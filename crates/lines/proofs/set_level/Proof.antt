@@ -9,9 +9,6 @@ use Rattle.lines.proofs.set_level.Tie as tie
 abbrev at-then1 : tie.After-slice-known3 → tie.Then1
 at-then1 c = c .before .before .before .before .before .before .before
 
-abbrev at-then1-2 : tie.After-slice-known5 → tie.Then1
-at-then1-2 c = c .before .before .before .before .before .before .before .before .before .before .before
-
 flag-at-requires : tie.Need-flag-at-requires
 flag-at-requires c κs = search needs
 
@@ -39,7 +36,10 @@ same-length-3 c = search needs
 
 returns-2 : tie.Need-returns-2
 unfolding levelled
-returns-2 c = λ m. simp (c .before .before .store-flag3 .ensures, c .before .before .before .before .before .before .store-flag2 .ensures, (at-then1-2 c) .if1 .taken, sym (c .before .before .before .before .before .before .before .before .before .flag-at .ensures) ∙ c .before .before .before .before .before .before .before .before .if2 .left)
+returns-2 c =
+    let f = c .before .before .before .before in
+    let e = f .before .before .before .before in
+    λ m. simp (c .before .before .store-flag3 .ensures, f .before .before .store-flag2 .ensures, e .before .before .before .if1 .taken, sym (e .before .flag-at .ensures) ∙ e .if2 .left)
 
 store-flag-requires-4 : tie.Need-store-flag-requires-4
 store-flag-requires-4 c κs = search needs

@@ -65,7 +65,10 @@ loop-less c = omega arith
 
 loop-again : tie.Need-loop-again Inv-loop μ-loop
 unfolding every regionKept
-loop-again c = (omega arith, c .both2 .ensures ∙ simp (add-one, c .before .before .before .before .before .before .before .before .before .loop .inv .1, c .before .both .ensures, c .before .before .before .kept-attributes .ensures, c .before .before .before .before .before .before .kept-base .ensures))
+loop-again c =
+    let a = c .before .before .before in
+    let b = a .before .before .before in
+    (omega arith, c .both2 .ensures ∙ simp (add-one, b .before .before .before .loop .inv .1, c .before .both .ensures, a .kept-attributes .ensures, b .kept-base .ensures))
 
 returns : tie.Need-returns Inv-loop μ-loop
 returns c = c .before .loop .inv .1 ∙ ap (every _) (le-antisymm (c .before .loop .inv .0) (c .loop-test .left))

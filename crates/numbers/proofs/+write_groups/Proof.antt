@@ -106,7 +106,7 @@ write-groups-returns-3 : (t : ℕ) → write-groups-lts.Need-returns-3 (
   write-groups-below t,
   write-groups.Post,
 ) (write-groups-at t) write-groups.Post
-write-groups-returns-3 t c = c .before .before .write-groups .ensures ∙ simp (groups-long (c .before .before .before .before .before .before .before .args .left) (c .before .before .before .before .before .before .before .args .n) (omega arith) (c .before .before .before .before .if2 .left), add-one)
+write-groups-returns-3 t c = let e = c .before .before .before .before in c .before .before .write-groups .ensures ∙ simp (groups-long (e .before .before .before .args .left) (e .before .before .before .args .n) (omega arith) (e .if2 .left), add-one)
 
 pub +write-groups-spec : {M : Type 1} → statement M
 +write-groups-spec = close μ-write-groups λ t. write-groups-lts.spec (

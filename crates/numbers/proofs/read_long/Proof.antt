@@ -16,7 +16,7 @@ abbrev at-start : tie.After-read-groups → tie.Start
 at-start g = g .before .before .before .before .before .before .before .before
 
 small : (g : tie.After-read-groups) → Bytes (at-start g .args .bytes .now)
-small g i = omega (arith, g .before .before .before .before .before .before .before .shared-slice-known .given i)
+small g i = let b = g .before .before .before .before .before in omega (arith, b .before .before .shared-slice-known .given i)
 
 word : (g : tie.After-read-groups) → g .read-groups .result ≡ orNone (numberAt (at-start g .args .bytes .now) (at-start g .args .at))
 word g =

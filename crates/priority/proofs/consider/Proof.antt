@@ -14,8 +14,9 @@ better-requires c κs = search needs
 
 returns : tie.Need-returns
 returns c =
-    let l = toZ-ofZ (c .before .before .before .before .before .before .fits .limit) in
-    c .better .ensures ∙ simp (c .before .before .before .if1 .taken, simp l at (sym (c .before .before .is-able .ensures) ∙ c .before .if2 .taken))
+    let a = c .before .before in
+    let l = toZ-ofZ (a .before .before .before .before .fits .limit) in
+    c .better .ensures ∙ simp (a .before .if1 .taken, simp l at (sym (a .is-able .ensures) ∙ c .before .if2 .taken))
 
 returns-2 : tie.Need-returns-2
 returns-2 c =

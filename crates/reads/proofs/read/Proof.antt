@@ -7,6 +7,10 @@ use borrow.Author.Needs.{needs}
 use Rattle.reads.proofs.read.Statement.{statement}
 use Rattle.reads.proofs.read.Tie as tie
 
+-- an earlier place of the function, from a later one
+abbrev at-start : tie.After-register-at → tie.Start
+at-start c = c .before .before .before .before .before .before
+
 sub-register-at : tie.Need-sub-register-at
 sub-register-at c = search needs
 
@@ -34,9 +38,10 @@ accepted-requires c κs = search needs
 returns : tie.Need-returns
 unfolding readCall
 returns c =
-    let r = c .before .before .before .before .before .before .before in
-    let s = r .before .before .before .before .before .before in
-    λ m. simp (c .accepted .ensures, c .before .before .after-read .ensures (withNest (s .args .nest .now) (withPriority (s .args .priority .now) (withEnabled (s .args .enabled .now) (withActive (s .args .active .now) (withPending (s .args .pending .now) m))))), c .before .lane-of .ensures, c .before .before .before .value-of .ensures m, r .register-at .ensures, sym (simp (r .register-at .ensures, c .before .before .before .before .before .before .is-privileged .ensures) at (c .before .before .before .before .before .access-refusal .ensures)), eq-eqb _ _ (c .before .before .before .before .if1 .taken))
+    let t = c .before .before .before .before in
+    let r = t .before .before .before in
+    let s = at-start r in
+    λ m. simp (c .accepted .ensures, c .before .before .after-read .ensures (withNest (s .args .nest .now) (withPriority (s .args .priority .now) (withEnabled (s .args .enabled .now) (withActive (s .args .active .now) (withPending (s .args .pending .now) m))))), c .before .lane-of .ensures, c .before .before .before .value-of .ensures m, r .register-at .ensures, sym (simp (r .register-at .ensures, t .before .before .is-privileged .ensures) at (t .before .access-refusal .ensures)), eq-eqb _ _ (t .if1 .taken))
 
 refused-requires : tie.Need-refused-requires
 refused-requires c κs = search needs

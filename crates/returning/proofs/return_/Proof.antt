@@ -8,33 +8,24 @@ use borrow.Author.Needs.{needs}
 use Rattle.returning.proofs.return_.Statement.{statement}
 use Rattle.returning.proofs.return_.Tie as tie
 
--- an earlier place of the function, from a later one
+-- earlier places of the function, from later ones
 abbrev at-then1 : tie.After-leave-arg3 → tie.Then1
 at-then1 c = c .before .before .before .before .before .before
 
-abbrev at-link-fits : tie.After-leave-arg3 → tie.After-link-fits
-at-link-fits c = (at-then1 c) .before
-
 abbrev at-start : tie.After-struct-known → tie.Start
 at-start c = c .before .before .before .before .before .before .before .before
-
-abbrev at-link-fits-2 : tie.After-accepted → tie.After-link-fits
-at-link-fits-2 c = at-link-fits (c .before .before .before .before .before .before .before .before)
-
-abbrev at-then1-2 : tie.After-accepted → tie.Then1
-at-then1-2 c = at-then1 (c .before .before .before .before .before .before .before .before)
 
 link-fits-requires : tie.Need-link-fits-requires
 link-fits-requires c κs = search needs
 
 sub-top-of : tie.Need-sub-top-of
-sub-top-of c = link-deep _ ((at-start c) .args .value) (is-true (sym (c .before .before .before .link-fits .ensures) ∙ c .before .before .if1 .taken))
+sub-top-of c = link-deep _ (at-start c .args .value) (is-true (sym (c .before .before .before .link-fits .ensures) ∙ c .before .before .if1 .taken))
 
 top-of-requires : tie.Need-top-of-requires
 top-of-requires c κs = search needs
 
 leave-requires : tie.Need-leave-requires
-leave-requires c κs = link-deep _ ((at-start (c .before .before .before .before)) .args .value) (is-true (sym ((at-link-fits c) .link-fits .ensures) ∙ (at-then1 c) .if1 .taken))
+leave-requires c κs = link-deep _ (at-start (c .before .before .before .before) .args .value) (is-true (sym (at-then1 c .before .link-fits .ensures) ∙ at-then1 c .if1 .taken))
 
 accepted-requires : tie.Need-accepted-requires
 accepted-requires c κs = search needs
@@ -50,7 +41,10 @@ same-length-3 c = search needs
 
 returns : tie.Need-returns
 unfolding returnCall
-returns c = λ m. simp (c .accepted .ensures, c .before .before .before .before .before .before .before .leave .ensures m, c .before .before .before .before .before .before .before .before .before .before .before .top-of .ensures, sym ((at-link-fits-2 c) .link-fits .ensures) ∙ (at-then1-2 c) .if1 .taken, sub-one)
+returns c =
+    let a = c .before .before .before .before in
+    let v = a .before .before .before in
+    λ m. simp (c .accepted .ensures, v .leave .ensures m, v .before .before .before .before .top-of .ensures, sym (at-then1 (v .before) .before .link-fits .ensures) ∙ at-then1 (v .before) .if1 .taken, sub-one)
 
 refused-requires : tie.Need-refused-requires
 refused-requires c κs = search needs

@@ -30,22 +30,36 @@ Inv-loop chip script pending₀ active₀ enabled₀ level₀ priority₀ nest�
 abbrev μ-loop : tie.MeasureT-loop
 μ-loop chip script pending₀ active₀ enabled₀ level₀ priority₀ nest₀ out₀ core₀ limit₀ at₀ events₀ wrote₀ pending active enabled level priority nest out core limit at events wrote = length script - at
 
--- ---- places: the entry of the call from the loop's head, the loop's head from where an event is read, that from where it has acted
+-- ---- earlier places of the function, from later ones
+
+-- the script is known, the entry of the call
+abbrev lent : tie.After-execution-arg2 Inv-loop μ-loop → tie.After-shared-slice-known Inv-loop μ-loop
+lent c = c .before .before .before .before .before .before .before .before .before .before
 
 abbrev begun : tie.At-loop Inv-loop μ-loop → tie.Start Inv-loop μ-loop
-begun c = c .before .before .before .before .before .before .before .before .before .before .before .before .before
+begun c = lent (c .before .before) .before
 
+-- the loop's head, the round that closes, an event is read, it has acted, its answer is to be written
 abbrev head : tie.After-event Inv-loop μ-loop → tie.At-loop Inv-loop μ-loop
 head c = c .before .before .before .before
 
-abbrev read : tie.After-act Inv-loop μ-loop → tie.After-event Inv-loop μ-loop
-read c = c .before .before .before .before .before .before .before .before
+abbrev closing : tie.After-close-arg Inv-loop μ-loop → tie.In-loop Inv-loop μ-loop
+closing c = c .before .before .before .before .before .before
+
+abbrev read : tie.After-act-arg6 Inv-loop μ-loop → tie.After-event Inv-loop μ-loop
+read c = c .before .before .before .before .before .before .before
+
+abbrev acted : tie.After-left Inv-loop μ-loop → tie.After-act Inv-loop μ-loop
+acted c = c .before .before .before .before .before .before .before .before .before .before .before .before .before
+
+abbrev answering : tie.After-struct-told Inv-loop μ-loop → tie.After-left Inv-loop μ-loop
+answering c = c .before .before .before .before .before .before .before
 
 first-sound : (c : tie.Start Inv-loop μ-loop) → Sound (c .args .chip) (modelOf (c .args .pending .now) (c .args .active .now) (c .args .enabled .now) (c .args .level .now) (c .args .priority .now) (c .args .nest .now) (c .args .course .core))
 first-sound c = usable-of _ _ _ (c .pre .1 .tested) .sound
 
 small : (c : tie.At-loop Inv-loop μ-loop) → Bytes (begun c .args .script .now)
-small c i = omega (arith, c .before .before .before .before .before .before .before .before .before .before .before .before .shared-slice-known .given i)
+small c i = omega (arith, lent (c .before .before) .shared-slice-known .given i)
 
 room : (c : tie.In-loop Inv-loop μ-loop) → c .before .loop .wrote + lineRoom ≤ length (c .before .loop .out)
 room c = omega (arith, c .loop-test .taken, c .before .loop .inv .0 .within, c .before .loop .inv .0 .sized)
@@ -57,17 +71,17 @@ one c = one-of _ (begun (head c) .pre .1 .short) (small (head c)) _ _ _ (sym (c 
 abbrev after : tie.After-act Inv-loop μ-loop → Answer
 after c = answer (c .act .result) (modelOf (c .act .last .1 .0) (c .act .last .1 .1 .0) (c .act .last .1 .1 .1 .0) (c .act .last .1 .1 .1 .1 .0) (c .act .last .1 .1 .1 .1 .1 .0) (c .act .last .1 .1 .1 .1 .1 .1 .0) (c .act .result .core))
 
-after-sound : (c : tie.After-act Inv-loop μ-loop) → Sound (begun (head (read c)) .args .chip) (after c .next)
-after-sound c = subst (λ (a : Answer). Sound (begun (head (read c)) .args .chip) (a .next)) (sym (c .act .ensures)) (act-sound (head (read c) .loop .inv .0 .sound) (read c .event .given .0 .0))
+after-sound : (c : tie.After-act Inv-loop μ-loop) → Sound (begun (head (read (c .before))) .args .chip) (after c .next)
+after-sound c = subst (λ (a : Answer). Sound (begun (head (read (c .before))) .args .chip) (a .next)) (sym (c .act .ensures)) (act-sound (head (read (c .before)) .loop .inv .0 .sound) (read (c .before) .event .given .0 .0))
 
 -- ---- the needs
 
 execution-requires : tie.Need-execution-requires Inv-loop μ-loop
-execution-requires c κs = let h = first-sound (c .before .before .before .before .before .before .before .before .before .before .before) in let d = depth-fits h in let l = h .places .size in omega arith
+execution-requires c κs = let h = first-sound (lent c .before) in let d = depth-fits h in let l = h .places .size in omega arith
 
 loop-holds : tie.Need-loop-holds Inv-loop μ-loop
 loop-holds c =
-    let s = c .before .before .before .before .before .before .before .before .before .before .before .before in
+    let s = lent (c .before) .before in
     (going-first _ _ _ _ _ _ (first-sound s) (usable-of _ _ _ (s .pre .1 .tested) .counted), toZ-ofZ (search needs) ∙ c .execution .ensures ∙ execution-nest (first-sound s))
 
 sub-loop : tie.Need-sub-loop Inv-loop μ-loop
@@ -86,36 +100,37 @@ close-requires : tie.Need-close-requires Inv-loop μ-loop
 close-requires c κs =
     rw (c .before .going .ensures)
     (record {
-      short = begun (c .before .before .before .before .before .before .before) .pre .1 .short;
+      short = begun (closing c .before) .pre .1 .short;
       refused = sym (c .before .before .before .before .before .read-event .ensures .0) ∙ c .before .before .before .number .given .1;
-      room = room (c .before .before .before .before .before .before);
+      room = room (closing c);
     })
 
 same-length : tie.Need-same-length Inv-loop μ-loop
-same-length c = let l = c .before .before .before .before .before .before .before .before .before .before in omega (arith, l .loop .inv .0 .sound .pending .size, first-sound (begun l) .pending .size)
+same-length c = let l = closing (c .before .before .before) .before in omega (arith, l .loop .inv .0 .sound .pending .size, first-sound (begun l) .pending .size)
 
 same-length-2 : tie.Need-same-length-2 Inv-loop μ-loop
-same-length-2 c = let l = c .before .before .before .before .before .before .before .before .before .before in omega (arith, l .loop .inv .0 .sound .active .size, first-sound (begun l) .active .size)
+same-length-2 c = let l = closing (c .before .before .before) .before in omega (arith, l .loop .inv .0 .sound .active .size, first-sound (begun l) .active .size)
 
 same-length-3 : tie.Need-same-length-3 Inv-loop μ-loop
-same-length-3 c = let l = c .before .before .before .before .before .before .before .before .before .before in omega (arith, l .loop .inv .0 .sound .enabled .size, first-sound (begun l) .enabled .size)
+same-length-3 c = let l = closing (c .before .before .before) .before in omega (arith, l .loop .inv .0 .sound .enabled .size, first-sound (begun l) .enabled .size)
 
 same-length-4 : tie.Need-same-length-4 Inv-loop μ-loop
-same-length-4 c = let l = c .before .before .before .before .before .before .before .before .before .before in omega (arith, l .loop .inv .0 .sound .level .size, first-sound (begun l) .level .size)
+same-length-4 c = let l = closing (c .before .before .before) .before in omega (arith, l .loop .inv .0 .sound .level .size, first-sound (begun l) .level .size)
 
 same-length-5 : tie.Need-same-length-5 Inv-loop μ-loop
-same-length-5 c = let l = c .before .before .before .before .before .before .before .before .before .before in omega (arith, l .loop .inv .0 .sound .priority .size, first-sound (begun l) .priority .size)
+same-length-5 c = let l = closing (c .before .before .before) .before in omega (arith, l .loop .inv .0 .sound .priority .size, first-sound (begun l) .priority .size)
 
 same-length-6 : tie.Need-same-length-6 Inv-loop μ-loop
-same-length-6 c = let l = c .before .before .before .before .before .before .before .before .before .before in omega (arith, l .loop .inv .0 .sound .places .size, first-sound (begun l) .places .size)
+same-length-6 c = let l = closing (c .before .before .before) .before in omega (arith, l .loop .inv .0 .sound .places .size, first-sound (begun l) .places .size)
 
 same-length-7 : tie.Need-same-length-7 Inv-loop μ-loop
-same-length-7 c = omega (arith, c .before .before .close .ensures .puts, c .before .before .before .before .before .before .before .before .before .before .loop .inv .0 .sized)
+same-length-7 c = omega (arith, c .before .before .close .ensures .puts, closing (c .before .before .before) .before .loop .inv .0 .sized)
 
 returns : tie.Need-returns Inv-loop μ-loop
 returns c =
-    let l = c .before .before .before .before .before .before .before .before .before .before in
-    let h = room (c .before .before .before .before .before .before .before .before .before) in
+    let i = closing (c .before .before .before) in
+    let l = i .before in
+    let h = room i in
     let z = l .loop .inv .0 .sized in
     ran-closed (begun l .pre .1) (l .loop .inv .0) (omega arith) _ _ (rw (c .before .before .before .before .going .ensures) at (c .before .before .close .ensures))
 
@@ -124,27 +139,33 @@ enum-known-event c = search needs
 
 act-requires : tie.Need-act-requires Inv-loop μ-loop
 act-requires c κs =
-    let l = c .before .before .before .before .before .before .before .before .before .before .before in
+    let l = head (read c) in
     let y = begun l .pre .0 in
     record { lines = y .lines; sound = l .loop .inv .0 .sound; priority = l .loop .inv .1 }
 
 add-events : tie.Need-add-events Inv-loop μ-loop
 add-events c =
-    let e = c .before .before .before .before .before .before .before .before .before .before .before .before .before .before .before .before .before .before .before .before .before in
+    let e = read (acted c .before) in
     omega (arith, one e .forward, one e .inside, head e .loop .inv .0 .counted, begun (head e) .pre .1 .short)
 
 put-answer-requires : tie.Need-put-answer-requires Inv-loop μ-loop
-put-answer-requires c κs = let h = after-sound (c .before .before .before .before .before .before .before .before .before .before .before .before .before .before .before .before) in let d = depth-fits h in let l = h .places .size in (omega arith, room (c .before .before .before .before .before .before .before .before .before .before .before .before .before .before .before .before .before .before .before .before .before .before .before .before .before .before .before))
+put-answer-requires c κs =
+    let a = acted (c .before .before .before) in
+    let h = after-sound a in
+    let d = depth-fits h in
+    let l = h .places .size in
+    (omega arith, room (read (a .before) .before .before .before))
 
 loop-less : tie.Need-loop-less Inv-loop μ-loop
-loop-less c = let e = c .before .before .before .before .before .before .before .before .before .before .before .before .before .before .before .before .before .before .before .before .before .before .before .before .before .before .before .before in omega (arith, one e .forward, one e .inside)
+loop-less c = let e = read (acted (answering c) .before) in omega (arith, one e .forward, one e .inside)
 
 loop-again : tie.Need-loop-again Inv-loop μ-loop
 loop-again c =
-    let a = c .before .before .before .before .before .before .before .before .before .before .before .before .before .before .before .before .before .before .before .before in
+    let a = acted (answering c) in
+    let e = read (a .before) in
     let t = c .before .before .before .put-answer in
     let x = t .ensures .priority ∙ execution-nest (after-sound a) in
-    (going-next (head (read a) .loop .inv .0) _ _ (one (read a)) (after a) (a .act .ensures) _ refl _ x _ _ (room (c .before .before .before .before .before .before .before .before .before .before .before .before .before .before .before .before .before .before .before .before .before .before .before .before .before .before .before .before .before .before .before)) (t .ensures .line) (t .ensures .within), toZ-ofZ (search needs) ∙ x)
+    (going-next (head e .loop .inv .0) _ _ (one e) (after a) (a .act .ensures) _ refl _ x _ _ (room (e .before .before .before)) (t .ensures .line) (t .ensures .within), toZ-ofZ (search needs) ∙ x)
 
 going-requires-2 : tie.Need-going-requires-2 Inv-loop μ-loop
 going-requires-2 c κs = search needs

@@ -6,9 +6,18 @@ use borrow.Author.Needs.{needs}
 use Rattle.running.proofs.run_some.Statement.{statement}
 use Rattle.running.proofs.run_some.Tie as tie
 
--- the place where the script is known to be short, from where the state is tested
-abbrev short : tie.After-is-usable → tie.Else2
-short c = c .before .before .before .before .before .before .before
+-- earlier places of the function, from later ones: the start, where the script is known to be short, where the state is known to be usable, where the events have run
+abbrev begun : tie.Else2 → tie.Start
+begun c = c .before .before .before .before .before .before .before .before .before .before
+
+abbrev short : tie.After-is-usable-arg6 → tie.Else2
+short c = c .before .before .before .before .before .before
+
+abbrev usable : tie.After-run-events-arg7 → tie.Then3
+usable c = c .before .before .before .before .before .before .before
+
+abbrev ran : tie.After-slice-known15 → tie.After-run-events
+ran c = c .before .before .before .before .before .before .before .before .before .before .before .before .before .before
 
 unmoved-requires : tie.Need-unmoved-requires
 unmoved-requires c κs = search needs
@@ -26,13 +35,14 @@ returns-2 : tie.Need-returns-2
 returns-2 c = c .before .before .run-long .ensures _ _ _ _ _ _ _
 
 is-usable-requires : tie.Need-is-usable-requires
-is-usable-requires c κs = c .before .before .before .before .before .before .before .before .before .before .before .before .before .before .before .before .pre
+is-usable-requires c κs = begun (short c) .pre
 
 run-events-requires : tie.Need-run-events-requires
 run-events-requires c κs =
-    let u = c .before .before .before .before .before .before .before .before in
-    let l = short u in
-    (c .before .before .before .before .before .before .before .before .before .before .before .before .before .before .before .before .before .before .before .before .before .before .before .before .before .pre, record { short = omega (arith, l .if2 .left); going = l .before .if1 .left; tested = sym (u .is-usable .ensures) ∙ c .before .before .before .before .before .before .before .if3 .taken })
+    let t = usable c in
+    let u = t .before in
+    let l = short (u .before) in
+    (begun l .pre, record { short = omega (arith, l .if2 .left); going = l .before .if1 .left; tested = sym (u .is-usable .ensures) ∙ t .if3 .taken })
 
 same-length-2 : tie.Need-same-length-2
 same-length-2 c = search needs
@@ -56,7 +66,7 @@ same-length-8 : tie.Need-same-length-8
 same-length-8 c = search needs
 
 returns-3 : tie.Need-returns-3
-returns-3 c = c .before .before .before .before .before .before .before .before .before .before .before .before .before .before .run-events .ensures
+returns-3 c = ran c .run-events .ensures
 
 refused-requires : tie.Need-refused-requires
 refused-requires c κs = search needs
@@ -82,7 +92,7 @@ same-length-14 c = search needs
 returns-4 : tie.Need-returns-4
 returns-4 c =
     let u = c .before .before in
-    let l = short u in
+    let l = short (u .before) in
     rw (c .refused .ensures) (ran-refused (l .before .if1 .left) (omega (arith, l .if2 .left)) (sym (u .is-usable .ensures) ∙ c .before .if3 .left) refl)
 
 pub run-some-spec : {M : Type 1} → statement M

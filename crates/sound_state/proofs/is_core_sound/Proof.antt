@@ -18,11 +18,8 @@ at-else1 c = (at-wide c) .before .before
 abbrev at-kept-byte : tie.After-is-sound2 → tie.After-kept-byte
 at-kept-byte c = (at-else2 c) .before .before
 
-abbrev at-else1-2 : tie.After-sound-system → tie.Else1
-at-else1-2 c = at-else1 (c .before .before .before .before .before .before)
-
-abbrev at-wide-2 : tie.After-sound-system → tie.After-wide
-at-wide-2 c = at-wide (c .before .before .before .before .before .before)
+abbrev at-is-sound : tie.After-sound-system → tie.After-is-sound
+at-is-sound c = c .before .before .before .before .before .before
 
 returns : tie.Need-returns
 returns c = simp (le-ltb _ _ (c .if1 .taken))
@@ -52,7 +49,7 @@ sound-system-requires : tie.Need-sound-system-requires
 sound-system-requires c κs = search needs
 
 returns-5 : tie.Need-returns-5
-returns-5 c = c .sound-system .ensures ∙ simp (lt-ltb _ _ ((at-else1-2 c) .if1 .left), simp ((at-kept-byte (c .before .before .before)) .kept-byte .ensures, (at-wide-2 c) .wide .ensures .0) at (eq-eqb _ _ ((at-else2 (c .before .before .before)) .if2 .left)), sym (c .before .before .before .before .before .before .is-sound .ensures) ∙ not-false _ (c .before .before .before .before .before .if3 .left), sym (c .before .before .before .is-sound2 .ensures) ∙ not-false _ (c .before .before .if4 .left))
+returns-5 c = c .sound-system .ensures ∙ simp (lt-ltb _ _ ((at-else1 (at-is-sound c)) .if1 .left), simp ((at-kept-byte (c .before .before .before)) .kept-byte .ensures, (at-wide (at-is-sound c)) .wide .ensures .0) at (eq-eqb _ _ ((at-else2 (c .before .before .before)) .if2 .left)), sym ((at-is-sound c) .is-sound .ensures) ∙ not-false _ (c .before .before .before .before .before .if3 .left), sym (c .before .before .before .is-sound2 .ensures) ∙ not-false _ (c .before .before .if4 .left))
 
 pub is-core-sound-spec : {M : Type 1} → statement M
 is-core-sound-spec =

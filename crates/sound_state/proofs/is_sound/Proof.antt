@@ -9,8 +9,11 @@ use Rattle.sound_state.proofs.is_sound.Statement.{statement}
 use Rattle.sound_state.proofs.is_sound.Tie as tie
 
 -- an earlier place of the function, from a later one
+abbrev at-sound-flags : tie.After-sound-nest → tie.After-sound-flags
+at-sound-flags c = c .before .before .before .before
+
 abbrev at-else1 : tie.After-sound-nest → tie.Else1
-at-else1 c = c .before .before .before .before .before
+at-else1 c = (at-sound-flags c) .before
 
 abbrev at-is-sized : tie.After-sound-nest → tie.After-is-sized
 at-is-sized c = (at-else1 c) .before
@@ -19,7 +22,7 @@ abbrev at-start : tie.After-is-sized → tie.Start
 at-start c = c .before .before .before .before .before .before .before
 
 abbrev at-start-2 : tie.After-sound-nest → tie.Start
-at-start-2 c = at-start (c .before .before .before .before .before .before)
+at-start-2 c = at-start (at-is-sized c)
 
 is-sized-requires : tie.Need-is-sized-requires
 is-sized-requires c κs = search needs
@@ -53,14 +56,14 @@ sound-nest-requires c κs =
 
 returns-4 : tie.Need-returns-4
 unfolding isSound
-returns-4 c = simp (sym ((at-is-sized (c .before)) .is-sized .ensures ((at-start-2 (c .before)) .args .core)) ∙ not-false _ ((at-else1 (c .before)) .if1 .left), sym (c .before .before .before .before .before .sound-flags .ensures) ∙ not-false _ (c .before .before .before .before .if2 .left), sym (c .before .before .before .bytes-sound .ensures) ∙ not-false _ (c .before .before .if3 .left), sym (c .before .sound-nest .ensures) ∙ not-true _ (c .if4 .taken))
+returns-4 c = simp (sym ((at-is-sized (c .before)) .is-sized .ensures ((at-start-2 (c .before)) .args .core)) ∙ not-false _ ((at-else1 (c .before)) .if1 .left), sym ((at-sound-flags (c .before)) .sound-flags .ensures) ∙ not-false _ (c .before .before .before .before .if2 .left), sym (c .before .before .before .bytes-sound .ensures) ∙ not-false _ (c .before .before .if3 .left), sym (c .before .sound-nest .ensures) ∙ not-true _ (c .if4 .taken))
 
 is-core-sound-requires : tie.Need-is-core-sound-requires
 is-core-sound-requires c κs = search needs
 
 returns-5 : tie.Need-returns-5
 unfolding isSound
-returns-5 c = c .is-core-sound .ensures ∙ simp (sym ((at-is-sized (c .before .before)) .is-sized .ensures ((at-start-2 (c .before .before)) .args .core)) ∙ not-false _ ((at-else1 (c .before .before)) .if1 .left), sym (c .before .before .before .before .before .before .sound-flags .ensures) ∙ not-false _ (c .before .before .before .before .before .if2 .left), sym (c .before .before .before .before .bytes-sound .ensures) ∙ not-false _ (c .before .before .before .if3 .left), sym (c .before .before .sound-nest .ensures) ∙ not-false _ (c .before .if4 .left))
+returns-5 c = c .is-core-sound .ensures ∙ simp (sym ((at-is-sized (c .before .before)) .is-sized .ensures ((at-start-2 (c .before .before)) .args .core)) ∙ not-false _ ((at-else1 (c .before .before)) .if1 .left), sym ((at-sound-flags (c .before .before)) .sound-flags .ensures) ∙ not-false _ (c .before .before .before .before .before .if2 .left), sym (c .before .before .before .before .bytes-sound .ensures) ∙ not-false _ (c .before .before .before .if3 .left), sym (c .before .before .sound-nest .ensures) ∙ not-false _ (c .before .if4 .left))
 
 pub is-sound-spec : {M : Type 1} → statement M
 is-sound-spec =

@@ -12,6 +12,23 @@ use Rattle.step.proofs.act.Tie as tie
 abbrev begun : tie.After-slice-known6 → tie.Start
 begun c = c .before .before .before .before .before .before
 
+-- the arm of an event, from its call
+abbrev reading : tie.After-read-arg5 → tie.After-event
+reading c = c .before .before .before .before .before .before
+
+abbrev writing : tie.After-write → tie.After-event2
+writing c = c .before .before .before .before .before .before .before
+
+abbrev returning : tie.After-return- → tie.After-event6
+returning c = c .before .before .before .before .before .before
+
+-- its call, from where the function returns
+abbrev wrote : tie.After-slice-known9 → tie.After-write
+wrote c = c .before .before .before .before .before .before
+
+abbrev returned : tie.After-slice-known21 → tie.After-return-
+returned c = c .before .before .before .before .before .before
+
 -- the model that the lists and the core make
 abbrev before : tie.Start → Model
 before s = modelOf (s .args .pending .now) (s .args .active .now) (s .args .enabled .now) (s .args .level .now) (s .args .priority .now) (s .args .nest .now) (s .args .core)
@@ -20,7 +37,7 @@ enum-known-event : tie.Need-enum-known-event
 enum-known-event c = search needs
 
 read-requires : tie.Need-read-requires
-read-requires c κs = begun (c .before .before .before .before .before .before .before .before) .pre .sound .core .group
+read-requires c κs = begun (reading c .before .before) .pre .sound .core .group
 
 enum-known-event-2 : tie.Need-enum-known-event-2
 enum-known-event-2 c = search needs
@@ -68,7 +85,7 @@ enum-told-4 : tie.Need-enum-told-4
 enum-told-4 c = search needs
 
 entry-requires : tie.Need-entry-requires
-entry-requires c κs = enterable (begun (c .before .before .before .before .before .before .before) .pre)
+entry-requires c κs = let e = c .before .before .before .before .before in enterable (begun (e .before .before) .pre)
 
 enum-known-event-6 : tie.Need-enum-known-event-6
 enum-known-event-6 c = search needs
@@ -102,7 +119,7 @@ same-length-5 c = search needs
 
 returns : tie.Need-returns
 returns c =
-    let e = c .before .before .before .before .before .before .before in
+    let e = reading (c .before) in
     let s = begun (e .before .before) in
     c .read .ensures (before s) ∙ simp (e .event .given .1)
 
@@ -123,8 +140,8 @@ same-length-10 c = search needs
 
 returns-2 : tie.Need-returns-2
 returns-2 c =
-    let k = c .before .before .before .before .before .before in
-    let e = k .before .before .before .before .before .before .before in
+    let k = wrote c in
+    let e = writing k in
     let s = begun (e .before .before) in
     k .write .ensures (before s) ∙ simp (e .event2 .given .1)
 
@@ -136,9 +153,10 @@ same-length-12 c = search needs
 
 returns-3 : tie.Need-returns-3
 returns-3 c =
-    let e = c .before .before .before .before .before .before .before .before in
+    let k = c .before .before .before .before in
+    let e = k .before .before .before .before in
     let s = begun (e .before .before) in
-    c .before .before .before .before .line .ensures (before s) ∙ simp (e .event3 .given .1)
+    k .line .ensures (before s) ∙ simp (e .event3 .given .1)
 
 same-length-13 : tie.Need-same-length-13
 same-length-13 c = search needs
@@ -169,9 +187,10 @@ same-length-17 c = search needs
 
 returns-6 : tie.Need-returns-6
 returns-6 c =
-    let e = c .before .before .before .before .before .before .before in
+    let k = c .before .before in
+    let e = k .before .before .before .before .before in
     let s = begun (e .before .before) in
-    c .before .before .fault .ensures (before s) ∙ simp (toZ-ofZ (s .fits .limit) ∙ s .pre .priority, e .event4 .given .1)
+    k .fault .ensures (before s) ∙ simp (toZ-ofZ (s .fits .limit) ∙ s .pre .priority, e .event4 .given .1)
 
 same-length-18 : tie.Need-same-length-18
 same-length-18 c = search needs
@@ -184,9 +203,10 @@ same-length-20 c = search needs
 
 returns-7 : tie.Need-returns-7
 returns-7 c =
-    let e = c .before .before .before .before .before .before in
+    let k = c .before .before in
+    let e = k .before .before .before .before in
     let s = begun (e .before .before) in
-    c .before .before .svc .ensures (before s) ∙ simp (toZ-ofZ (s .fits .limit) ∙ s .pre .priority, e .enum-told3 .given .1)
+    k .svc .ensures (before s) ∙ simp (toZ-ofZ (s .fits .limit) ∙ s .pre .priority, e .enum-told3 .given .1)
 
 returns-8 : tie.Need-returns-8
 returns-8 c =
@@ -211,8 +231,10 @@ same-length-25 c = search needs
 
 returns-9 : tie.Need-returns-9
 returns-9 c =
-    let k = c .before .before .before .before .before .before in
-    let e = k .before .before .before .before .before .before in
+    let p = c .before .before .before .before .before in
+    let k = p .before in
+    let a = k .before in
+    let e = a .before .before .before .before .before in
     let s = begun (e .before .before) in
     k .entry .ensures (before s) ∙ simp (toZ-ofZ (s .fits .limit) ∙ s .pre .priority, e .enum-told4 .given .1)
 
@@ -230,8 +252,8 @@ same-length-29 c = search needs
 
 returns-10 : tie.Need-returns-10
 returns-10 c =
-    let k = c .before .before .before .before .before .before in
-    let e = k .before .before .before .before .before .before in
+    let k = returned c in
+    let e = returning k in
     let s = begun (e .before .before) in
     k .return- .ensures (before s) ∙ simp (e .event6 .given .1)
 

@@ -17,7 +17,17 @@ Inv-loop script want out₀ progress₀ at₀ out progress at = (65536 ≡ lengt
 abbrev μ-loop : tie.MeasureT-loop
 μ-loop script want out₀ progress₀ at₀ out progress at = left (progress .ended) (length script - progress .at)
 
-small : (c : tie.At-loop Inv-loop μ-loop) → Bytes (c .before .before .before .before .before .args .script .now)
+-- earlier places of the function, from later ones: the start, the loop's head, where a piece has run
+abbrev begun : tie.At-loop Inv-loop μ-loop → tie.Start Inv-loop μ-loop
+begun c = c .before .before .before .before .before
+
+abbrev head : tie.After-run-some Inv-loop μ-loop → tie.At-loop Inv-loop μ-loop
+head c = c .before .before .before .before
+
+abbrev ran : tie.After-agreeing Inv-loop μ-loop → tie.After-run-some Inv-loop μ-loop
+ran c = c .before .before .before
+
+small : (c : tie.At-loop Inv-loop μ-loop) → Bytes (begun c .args .script .now)
 small c i = omega (arith, c .before .before .before .before .shared-slice-known .given i)
 
 large-buffer-requires : tie.Need-large-buffer-requires Inv-loop μ-loop
@@ -42,34 +52,33 @@ slice-aggregate-agreeing : tie.Need-slice-aggregate-agreeing Inv-loop μ-loop
 slice-aggregate-agreeing c = sym (length-take-le _ _ (c .before .before .run-some .ensures .within))
 
 agreeing-requires : tie.Need-agreeing-requires Inv-loop μ-loop
-agreeing-requires c κs = c .before .before .before .before .before .before .loop .inv .1 .inside
+agreeing-requires c κs = head (c .before .before) .loop .inv .1 .inside
 
 add-line-at : tie.Need-add-line-at Inv-loop μ-loop
-add-line-at c = omega (arith, c .before .agreeing .ensures .inside, c .before .before .before .before .before .before .before .before .before .before .before .before .before .pre)
+add-line-at c = omega (arith, c .before .agreeing .ensures .inside, begun (head (ran (c .before))) .pre)
 
 line-at-requires : tie.Need-line-at-requires Inv-loop μ-loop
-line-at-requires c κs = (c .before .agreeing .ensures .inside, c .before .before .before .before .before .before .before .before .before .before .before .before .before .pre)
+line-at-requires c κs = (c .before .agreeing .ensures .inside, begun (head (ran (c .before))) .pre)
 
 returns : tie.Need-returns Inv-loop μ-loop
 returns c = λ e. let z : ⊥ = omega (arith, c .line-at .ensures) in absurd z
 
 add-at : tie.Need-add-at Inv-loop μ-loop
-add-at c = omega (arith, c .before .agreeing .ensures .inside, c .before .before .before .before .before .before .before .before .before .before .before .before .before .pre)
+add-at c = omega (arith, c .before .agreeing .ensures .inside, begun (head (ran (c .before))) .pre)
 
 loop-less : tie.Need-loop-less Inv-loop μ-loop
 loop-less c =
-    let r = c .before .before .before .before .run-some in
-    let t = c .before .before .before .before .before .before in
-    let l = t .before .before in
-    left-falls (l .loop .progress .ended) (r .result .ended) _ _ _ (t .if1 .taken) (headway (small l) (r .ensures) (omega (arith, l .loop .inv .0)))
+    let r = ran (c .before) in
+    let l = head r in
+    left-falls (l .loop .progress .ended) (r .run-some .result .ended) _ _ _ (r .before .before .if1 .taken) (headway (small l) (r .run-some .ensures) (omega (arith, l .loop .inv .0)))
 
 loop-again : tie.Need-loop-again Inv-loop μ-loop
 loop-again c =
-    let l = c .before .before .before .before .before .before .before .before in
-    (search needs, judging-next (small l) (l .loop .inv .1) (c .before .before .before .before .run-some .ensures) (c .before .agreeing .ensures) (c .if2 .left))
+    let r = ran (c .before) in
+    (search needs, judging-next (small (head r)) (head r .loop .inv .1) (r .run-some .ensures) (c .before .agreeing .ensures) (c .if2 .left))
 
 line-at-requires-2 : tie.Need-line-at-requires-2 Inv-loop μ-loop
-line-at-requires-2 c κs = (c .before .before .before .loop .inv .1 .inside, c .before .before .before .before .before .before .before .before .pre)
+line-at-requires-2 c κs = let l = c .before .before .before in (l .loop .inv .1 .inside, begun l .pre)
 
 returns-2 : tie.Need-returns-2 Inv-loop μ-loop
 returns-2 c = λ e. let z : ⊥ = omega (arith, c .line-at2 .ensures) in absurd z

@@ -5,6 +5,10 @@ use borrow.Author.Needs.{needs}
 use Rattle.vectors.proofs.vector.Statement.{statement}
 use Rattle.vectors.proofs.vector.Tie as tie
 
+-- an earlier place of the function, from a later one
+abbrev begun : tie.After-want → tie.Start
+begun c = c .before .before .before .before .before
+
 slice-aggregate-read-file : tie.Need-slice-aggregate-read-file
 slice-aggregate-read-file c = search needs
 
@@ -27,7 +31,7 @@ read-file-requires-2 : tie.Need-read-file-requires-2
 read-file-requires-2 c κs = search needs
 
 add-unread : tie.Need-add-unread
-add-unread c = omega (arith, c .before .before .before .before .before .before .before .before .pre)
+add-unread c = omega (arith, begun (c .before .before .before) .pre)
 
 unread-requires-2 : tie.Need-unread-requires-2
 unread-requires-2 c κs = search needs

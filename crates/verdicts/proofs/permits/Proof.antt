@@ -10,6 +10,10 @@ use Rattle.verdicts.proofs.permits.Tie as tie
 lengths : (c : tie.Start) → (length (c .args .guard .bases) ≡ 8) × (length (c .args .guard .attributes) ≡ 8)
 lengths c = (search needs, search needs)
 
+-- an earlier place of the function, from a later one
+abbrev ordinary : tie.After-attributes2 → tie.Else1
+ordinary c = c .before .before .before .before .before
+
 system-fetch-requires : tie.Need-system-fetch-requires
 system-fetch-requires c κs = search needs
 
@@ -37,11 +41,14 @@ slice-aggregate-regions-allow-2 : tie.Need-slice-aggregate-regions-allow-2
 slice-aggregate-regions-allow-2 c = search needs
 
 regions-allow-requires : tie.Need-regions-allow-requires
-regions-allow-requires c κs = let l = lengths (c .before .before .before .before .before .before .before .before .before) in l .0 ∙ sym (l .1)
+regions-allow-requires c κs = let l = lengths (ordinary c .before .before .before .before) in l .0 ∙ sym (l .1)
 
 returns-3 : tie.Need-returns-3
 unfolding permits
-returns-3 c = let l = lengths (c .before .before .before .before .before .before .before .before .before .before) in simp (c .regions-allow .ensures, sym (c .before .before .before .before .before .before .before .system-fetch .ensures) ∙ c .before .before .before .before .before .before .if1 .left, sym (c .before .before .before .before .before .default-decides .ensures) ∙ c .before .before .before .before .if2 .left, c .before .before .before .background .ensures, l .1)
+returns-3 c =
+    let e = ordinary (c .before) in
+    let l = lengths (e .before .before .before .before) in
+    simp (c .regions-allow .ensures, sym (e .before .system-fetch .ensures) ∙ e .if1 .left, sym (c .before .before .before .before .before .default-decides .ensures) ∙ c .before .before .before .before .if2 .left, c .before .before .before .background .ensures, l .1)
 
 pub permits-spec : {M : Type 1} → statement M
 permits-spec =

@@ -6,12 +6,15 @@ use borrow.Author.Needs.{needs}
 use Rattle.writes.proofs.word_written.Statement.{statement}
 use Rattle.writes.proofs.word_written.Tie as tie
 
--- an earlier place of the function, from a later one
+-- earlier places of the function, from later ones
 abbrev at-start : tie.After-slice-known3 → tie.Start
 at-start c = c .before .before .before .before .before
 
-abbrev at-start-2 : tie.After-slice-known5 → tie.Start
-at-start-2 c = at-start (c .before .before .before .before .before .before .before .before .before .before)
+abbrev at-bank : tie.After-slice-known5 → tie.After-register2
+at-bank c = c .before .before .before .before .before .before .before .before
+
+abbrev at-system : tie.After-slice-known8 → tie.After-register4
+at-system c = c .before .before .before .before .before .before .before .before
 
 enum-told : tie.Need-enum-told
 enum-told c = search needs
@@ -62,7 +65,7 @@ same-length-2 c = search needs
 
 returns-3 : tie.Need-returns-3
 unfolding wordWritten
-returns-3 c = λ m. c .before .before .before .before .bank-written .ensures (withCore ((at-start-2 c) .args .core) (withPriority _ m)) ∙ simp (c .before .before .before .before .before .before .before .before .register2 .given .1)
+returns-3 c = λ m. c .before .before .before .before .bank-written .ensures (withCore (at-start (at-bank c .before .before) .args .core) (withPriority _ m)) ∙ simp (at-bank c .register2 .given .1)
 
 same-length-3 : tie.Need-same-length-3
 same-length-3 c = search needs
@@ -79,7 +82,7 @@ same-length-5 c = search needs
 
 returns-5 : tie.Need-returns-5
 unfolding wordWritten
-returns-5 c = λ m. c .before .before .before .before .system-written .ensures (withPriority _ (withLevel _ (withActive _ m))) ∙ simp (c .before .before .before .before .before .before .before .before .register4 .given .1)
+returns-5 c = λ m. c .before .before .before .before .system-written .ensures (withPriority _ (withLevel _ (withActive _ m))) ∙ simp (at-system c .register4 .given .1)
 
 returns-6 : tie.Need-returns-6
 unfolding wordWritten

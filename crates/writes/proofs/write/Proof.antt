@@ -7,6 +7,10 @@ use borrow.Author.Needs.{needs}
 use Rattle.writes.proofs.write.Statement.{statement}
 use Rattle.writes.proofs.write.Tie as tie
 
+-- an earlier place of the function, from a later one
+abbrev at-start : tie.After-register-at → tie.Start
+at-start c = c .before .before .before .before .before .before
+
 sub-register-at : tie.Need-sub-register-at
 sub-register-at c = search needs
 
@@ -37,8 +41,10 @@ same-length-3 c = search needs
 returns : tie.Need-returns
 unfolding writeCall written
 returns c =
-    let w = c .before .before .before .before .before .before .before .before .before .before .before in
-    λ m. simp (c .accepted .ensures, c .before .before .before .before .before .before .before .word-written .ensures m, w .before .before .before .before .register-at .ensures, sym (simp (w .before .before .before .before .register-at .ensures, w .before .before .before .may-write .ensures, eq-eqb _ _ (w .if2 .taken)) at (w .before .before .access-refusal .ensures)), eq-eqb _ _ (w .before .if1 .taken), eq-eqb _ _ (w .if2 .taken))
+    let e = c .before .before .before .before in
+    let t = e .before .before .before in
+    let w = t .before .before .before .before in
+    λ m. simp (c .accepted .ensures, t .word-written .ensures m, w .before .before .before .before .register-at .ensures, sym (simp (w .before .before .before .before .register-at .ensures, w .before .before .before .may-write .ensures, eq-eqb _ _ (w .if2 .taken)) at (w .before .before .access-refusal .ensures)), eq-eqb _ _ (w .before .if1 .taken), eq-eqb _ _ (w .if2 .taken))
 
 byte-written-requires : tie.Need-byte-written-requires
 byte-written-requires c κs = search needs
@@ -53,7 +59,7 @@ returns-2 : tie.Need-returns-2
 unfolding writeCall written
 returns-2 c =
     let w = c .before .before .before .before .before in
-    let s = w .before .before .before .before .before .before .before .before .before .before in
+    let s = at-start (w .before .before .before .before) in
     λ m. simp (c .accepted2 .ensures, c .before .before .before .byte-written .ensures (withCore (s .args .core) (withLevel (s .args .level .now) (withEnabled (s .args .enabled .now) (withActive (s .args .active .now) (withPending (s .args .pending .now) m))))), w .before .before .before .before .register-at .ensures, sym (simp (w .before .before .before .before .register-at .ensures, w .before .before .before .may-write .ensures, ne-eqb _ _ (w .if2 .left)) at (w .before .before .access-refusal .ensures)), eq-eqb _ _ (w .before .if1 .taken), ne-eqb _ _ (w .if2 .left))
 
 refused-requires : tie.Need-refused-requires

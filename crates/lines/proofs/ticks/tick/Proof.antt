@@ -5,8 +5,8 @@ use Rattle.lines.proofs.ticks.tick.Statement.{statement}
 use Rattle.lines.proofs.ticks.tick.Tie as tie
 
 -- an earlier place of the function, from a later one
-abbrev at-tick : tie.After-accepted → tie.After-tick
-at-tick c = c .before .before .before .before .before .before .before .before
+abbrev at-bit-of : tie.After-accepted → tie.After-bit-of
+at-bit-of c = c .before .before .before .before .before .before
 
 tick-requires : tie.Need-tick-requires
 tick-requires c κs = search needs
@@ -25,7 +25,7 @@ same-length c = search needs
 
 returns : tie.Need-returns
 unfolding tickCall
-returns c = λ m. simp (c .accepted .ensures, c .before .before .before .store-flag .ensures, c .before .before .before .before .before .before .bit-of .ensures, (at-tick c) .tick .ensures, rw ((at-tick c) .tick .ensures) at (c .before .before .before .before .before .if1 .taken))
+returns c = λ m. simp (c .accepted .ensures, c .before .before .before .store-flag .ensures, at-bit-of c .bit-of .ensures, at-bit-of c .before .before .tick .ensures, rw (at-bit-of c .before .before .tick .ensures) at (c .before .before .before .before .before .if1 .taken))
 
 accepted-requires-2 : tie.Need-accepted-requires-2
 accepted-requires-2 c κs = search needs

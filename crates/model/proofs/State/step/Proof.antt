@@ -5,6 +5,10 @@ use borrow.Author.Needs.{needs}
 use Rattle.model.proofs.State.step.Statement.{statement}
 use Rattle.model.proofs.State.step.Tie as tie
 
+-- an earlier place of the function, from a later one
+abbrev stepped : tie.After-left → tie.After-step
+stepped c = c .before .before .before .before .before .before .before
+
 slice-aggregate-step : tie.Need-slice-aggregate-step
 slice-aggregate-step c = search needs
 
@@ -27,7 +31,7 @@ step-requires : tie.Need-step-requires
 step-requires c κs = search needs
 
 returns : tie.Need-returns
-returns c = ap reply (c .before .before .before .before .before .before .before .step .ensures)
+returns c = ap reply (stepped c .step .ensures)
 
 pub step-spec : {M : Type 1} → statement M
 step-spec =

@@ -5,6 +5,10 @@ use Rattle.rules.specs.Writes.{withByte}
 use Rattle.nvic.proofs.bytes.put_byte.Statement.{statement}
 use Rattle.nvic.proofs.bytes.put_byte.Tie as tie
 
+-- an earlier place of the function, from a later one
+abbrev at-then1 : tie.After-slice-known2 → tie.Then1
+at-then1 c = c .before .before .before .before .before
+
 has-byte-requires : tie.Need-has-byte-requires
 has-byte-requires c κs = search needs
 
@@ -19,7 +23,7 @@ same-length c = search needs
 
 returns : tie.Need-returns
 unfolding withByte
-returns c = c .before .before .store-byte .ensures ∙ simp (c .before .before .before .kept-byte .ensures, sym (c .before .before .before .before .before .before .has-byte .ensures) ∙ c .before .before .before .before .before .if1 .taken)
+returns c = c .before .before .store-byte .ensures ∙ simp (c .before .before .before .kept-byte .ensures, sym (at-then1 c .before .has-byte .ensures) ∙ at-then1 c .if1 .taken)
 
 returns-2 : tie.Need-returns-2
 unfolding withByte

@@ -24,10 +24,13 @@ same-length c = search needs
 returns : tie.Need-returns
 unfolding withBytes
 returns c =
-    c .before .before .put-lane4 .ensures
-    ∙ ap (withByte _ _ _) (c .before .before .before .before .before .before .put-lane3 .ensures
-    ∙ ap (withByte _ _ _) (c .before .before .before .before .before .before .before .before .before .before .put-lane2 .ensures
-    ∙ ap (withByte _ _ _) (rw add-zero at (c .before .before .before .before .before .before .before .before .before .before .before .before .before .before .put-lane .ensures))))
+    let fourth = c .before .before in
+    let third = fourth .before .before .before .before in
+    let second = third .before .before .before .before in
+    fourth .put-lane4 .ensures
+    ∙ ap (withByte _ _ _) (third .put-lane3 .ensures
+    ∙ ap (withByte _ _ _) (second .put-lane2 .ensures
+    ∙ ap (withByte _ _ _) (rw add-zero at (second .before .before .before .before .put-lane .ensures))))
 
 pub put-bytes-spec : {M : Type 1} → statement M
 put-bytes-spec =

@@ -5,6 +5,10 @@ use Rattle.rules.specs.Writes.{clearable}
 use Rattle.nvic.proofs.flags.clear_pending.Statement.{statement}
 use Rattle.nvic.proofs.flags.clear_pending.Tie as tie
 
+-- an earlier place of the function, from a later one
+abbrev at-clear-ones : tie.After-slice-known2 → tie.After-clear-ones
+at-clear-ones c = c .before .before .before .before .before
+
 flags-word-requires : tie.Need-flags-word-requires
 flags-word-requires c κs = search needs
 
@@ -25,7 +29,7 @@ same-length c = search needs
 
 returns : tie.Need-returns
 unfolding clearable
-returns c = c .before .before .clear-flags .ensures ∙ simp (c .before .before .before .clear-ones2 .ensures, c .before .before .before .before .before .clear-ones .ensures, c .before .before .before .before .before .before .flags-word2 .ensures, c .before .before .before .before .before .before .before .flags-word .ensures)
+returns c = c .before .before .clear-flags .ensures ∙ simp (c .before .before .before .clear-ones2 .ensures, at-clear-ones c .clear-ones .ensures, at-clear-ones c .before .flags-word2 .ensures, at-clear-ones c .before .before .flags-word .ensures)
 
 pub clear-pending-spec : {M : Type 1} → statement M
 clear-pending-spec =

@@ -31,7 +31,8 @@ enum-told-2 c = search needs
 
 returns-2 : tie.Need-returns-2
 returns-2 c =
-    second-bad _ _ _ _ (c .before .before .before .before .before .before .before .arity .ensures) _ _ (sym (c .before .before .before .before .before .before .read-if .ensures) ∙ c .before .before .before .before .a .given .1)
+    let first = c .before .before .before .before in
+    second-bad _ _ _ _ (first .before .before .before .arity .ensures) _ _ (sym (first .before .before .read-if .ensures) ∙ first .a .given .1)
     (sym (c .before .before .read-if2 .ensures) ∙ c .enum-told2 .given .1)
 
 read-if-requires-3 : tie.Need-read-if-requires-3
@@ -45,8 +46,10 @@ enum-told-3 c = search needs
 
 returns-3 : tie.Need-returns-3
 returns-3 c =
-    third-bad _ _ _ _ (c .before .before .before .before .before .before .before .before .before .before .before .arity .ensures) _ _ (sym (c .before .before .before .before .before .before .before .before .before .before .read-if .ensures) ∙ c .before .before .before .before .before .before .before .before .a .given .1)
-    _ _ (sym (c .before .before .before .before .before .before .read-if2 .ensures) ∙ c .before .before .before .before .b .given .1)
+    let second = c .before .before .before .before in
+    let first = second .before .before .before .before in
+    third-bad _ _ _ _ (first .before .before .before .arity .ensures) _ _ (sym (first .before .before .read-if .ensures) ∙ first .a .given .1)
+    _ _ (sym (second .before .before .read-if2 .ensures) ∙ second .b .given .1)
     (sym (c .before .before .read-if3 .ensures) ∙ c .enum-told3 .given .1)
 
 event-of-requires : tie.Need-event-of-requires
@@ -54,10 +57,13 @@ event-of-requires c κs = search needs
 
 returns-4 : tie.Need-returns-4
 returns-4 c =
+    let third = c .before .before in
+    let second = third .before .before .before .before in
+    let first = second .before .before .before .before in
     c .event-of .ensures
-    ∙ all-found _ _ _ _ (c .before .before .before .before .before .before .before .before .before .before .before .before .before .arity .ensures) _ _ (sym (c .before .before .before .before .before .before .before .before .before .before .before .before .read-if .ensures) ∙ c .before .before .before .before .before .before .before .before .before .before .a .given .1)
-    _ _ (sym (c .before .before .before .before .before .before .before .before .read-if2 .ensures) ∙ c .before .before .before .before .before .before .b .given .1)
-    _ _ (sym (c .before .before .before .before .read-if3 .ensures) ∙ c .before .before .c .given .1)
+    ∙ all-found _ _ _ _ (first .before .before .before .arity .ensures) _ _ (sym (first .before .before .read-if .ensures) ∙ first .a .given .1)
+    _ _ (sym (second .before .before .read-if2 .ensures) ∙ second .b .given .1)
+    _ _ (sym (third .before .before .read-if3 .ensures) ∙ third .c .given .1)
 
 pub read-arguments-spec : {M : Type 1} → statement M
 read-arguments-spec =

@@ -10,6 +10,10 @@ use borrow.Author.Needs.{needs}
 use Rattle.script.proofs.reading.read_event.Statement.{statement}
 use Rattle.script.proofs.reading.read_event.Tie as tie
 
+-- an earlier place of the function, from a later one
+abbrev at-start : tie.After-read-number → tie.Start
+at-start c = c .before .before .before
+
 answered : {a b : ReadEvent} → a ≡ b → (a ≡ b) × (readAnswer a ≡ readAnswer b)
 answered e = (e, ap readAnswer e)
 
@@ -31,11 +35,11 @@ enum-told c = search needs
 
 returns-2 : tie.Need-returns-2
 unfolding readEvent withKind
-returns-2 c = answered (c .read-arguments .ensures ∙ simp (le-ltb 65536 (length (c .before .before .before .before .before .before .before .args .script .now)) (omega arith), sym (c .before .before .before .before .read-number .ensures .0) ∙ c .before .before .kind .given .1))
+returns-2 c = answered (c .read-arguments .ensures ∙ simp (le-ltb 65536 (length (at-start (c .before .before .before .before) .args .script .now)) (omega arith), sym (c .before .before .before .before .read-number .ensures .0) ∙ c .before .before .kind .given .1))
 
 returns-3 : tie.Need-returns-3
 unfolding readEvent withKind
-returns-3 c = answered (simp (le-ltb 65536 (length (c .before .before .before .before .before .args .script .now)) (omega arith), sym (c .before .before .read-number .ensures .0) ∙ c .enum-told .given .1))
+returns-3 c = answered (simp (le-ltb 65536 (length (at-start (c .before .before) .args .script .now)) (omega arith), sym (c .before .before .read-number .ensures .0) ∙ c .enum-told .given .1))
 
 pub read-event-spec : {M : Type 1} → statement M
 read-event-spec =

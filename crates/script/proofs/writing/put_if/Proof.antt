@@ -9,6 +9,10 @@ use borrow.Author.Needs.{needs}
 use Rattle.script.proofs.writing.put_if.Statement.{statement}
 use Rattle.script.proofs.writing.put_if.Tie as tie
 
+-- an earlier place of the function, from a later one
+abbrev at-then1 : tie.After-size → tie.Then1
+at-then1 c = c .before .before .before .before .before
+
 write-groups-requires : tie.Need-write-groups-requires
 unfolding bytesIf numberBytes
 write-groups-requires c κs = omega (arith, ap (λ (w : Bool). length (bytesIf w (c .before .before .before .args .n))) (c .before .if1 .taken))
@@ -18,14 +22,14 @@ size-requires c κs = search needs
 
 add-result : tie.Need-add-result
 unfolding bytesIf numberBytes
-add-result c = omega (arith, ap (λ (b : Bool). length (bytesIf b (c .before .before .before .before .before .before .before .args .n))) (c .before .before .before .before .before .if1 .taken))
+add-result c = omega (arith, ap (λ (b : Bool). length (bytesIf b (at-then1 c .before .before .args .n))) (at-then1 c .if1 .taken))
 
 same-length : tie.Need-same-length
 same-length c = search needs
 
 returns : tie.Need-returns
 unfolding bytesIf numberBytes
-returns c = (simp (c .before .before .before .before .before .if1 .taken, c .size .ensures), c .before .before .before .write-groups .ensures ∙ simp (c .before .before .before .before .before .if1 .taken))
+returns c = (simp (at-then1 c .if1 .taken, c .size .ensures), c .before .before .before .write-groups .ensures ∙ simp (at-then1 c .if1 .taken))
 
 returns-2 : tie.Need-returns-2
 unfolding bytesIf

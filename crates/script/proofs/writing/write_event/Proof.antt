@@ -14,8 +14,8 @@ answered : {a b : Written} {A : Type 0} → (a ≡ b) × A → (a ≡ b) × (A �
 answered p = (p .0, (p .1, ap writtenAnswer (p .0)))
 
 -- an earlier place of the function, from a later one
-abbrev at-start : tie.After-slice-known2 → tie.Start
-at-start c = c .before .before .before .before .before .before .before .before .before .before
+abbrev at-event-size : tie.After-slice-known2 → tie.After-event-size
+at-event-size c = c .before .before .before .before .before .before
 
 returns : tie.Need-returns
 returns c = answered (too-long _ _ _ (omega arith))
@@ -43,10 +43,11 @@ same-length c = search needs
 
 returns-4 : tie.Need-returns-4
 returns-4 c =
-    let b = same-bytes _ _ (c .before .before .before .before .before .before .before .numbers-of .ensures) in
+    let a = at-event-size c .before .before .before .before .args in
+    let b = same-bytes _ _ (at-event-size c .before .numbers-of .ensures) in
     let s = ap length b in
-    let r = room ((at-start c) .args .out .now) ((at-start c) .args .at) ((at-start c) .args .e) (omega arith) in
-    answered (simp (c .before .before .before .before .before .before .event-size .ensures, b) (r .0), c .before .before .put-all .ensures ∙ simp b (r .1))
+    let r = room (a .out .now) (a .at) (a .e) (omega arith) in
+    answered (simp (at-event-size c .event-size .ensures, b) (r .0), c .before .before .put-all .ensures ∙ simp b (r .1))
 
 pub write-event-spec : {M : Type 1} → statement M
 write-event-spec =

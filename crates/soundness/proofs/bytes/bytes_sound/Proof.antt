@@ -31,7 +31,7 @@ byte-sound-requires c κs = search needs
 
 returns : tie.Need-returns Inv-loop μ-loop
 unfolding byteSound
-returns c = sym (every-false _ (c .before .before .before .before .loop .n) _ (rw (sym (c .before .before .before .before .before .before .pre)) (c .before .before .before .loop-test .taken)) (sym (c .before .byte-sound .ensures) ∙ not-true _ (c .if1 .taken)))
+returns c = let l = c .before .before .before .before in sym (every-false _ (l .loop .n) _ (rw (sym (l .before .before .pre)) (c .before .before .before .loop-test .taken)) (sym (c .before .byte-sound .ensures) ∙ not-true _ (c .if1 .taken)))
 
 add-n : tie.Need-add-n Inv-loop μ-loop
 add-n c = omega arith

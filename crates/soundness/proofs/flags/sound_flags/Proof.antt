@@ -38,7 +38,8 @@ flags-sound-requires-4 c κs = search needs
 returns-4 : tie.Need-returns-4
 unfolding soundFlags
 returns-4 c =
-    let pending = sym (c .before .before .before .before .before .before .flags-sound .ensures) ∙ not-false _ (c .before .before .before .before .before .if1 .left) in
+    let p = c .before .before .before .before .before in
+    let pending = sym (p .before .flags-sound .ensures) ∙ not-false _ (p .if1 .left) in
     let active = sym (c .before .before .before .before .flags-sound2 .ensures) ∙ not-false _ (c .before .before .before .if2 .left) in
     let enabled = sym (c .before .before .flags-sound3 .ensures) ∙ not-false _ (c .before .if3 .left) in
     c .flags-sound4 .ensures ∙ and-last (and-true-of (and-true-of pending active) enabled)

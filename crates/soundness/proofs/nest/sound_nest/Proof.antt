@@ -50,10 +50,11 @@ are-distinct-requires c κs = search needs
 returns-5 : tie.Need-returns-5
 unfolding soundNest
 returns-5 c =
-    let s = at-start (c .before .before .before .before) in
-    let fits = le-leb _ _ (rw (s .pre .1) at (c .before .before .before .before .before .before .before .if1 .left)) in
-    let unused = ap (every _) (sym (s .pre .1)) ∙ sym (c .before .before .before .before .before .before .unused-sound .ensures) ∙ not-false _ (c .before .before .before .before .before .if2 .left) in
-    let nested = ap (every _) (sym (s .pre .0)) ∙ sym (c .before .before .before .before .active-nested .ensures) ∙ not-false _ (c .before .before .before .if3 .left) in
+    let a = c .before .before .before .before in
+    let s = at-start a in
+    let fits = le-leb _ _ (rw (s .pre .1) at (a .before .before .before .if1 .left)) in
+    let unused = ap (every _) (sym (s .pre .1)) ∙ sym (a .before .before .unused-sound .ensures) ∙ not-false _ (a .before .if2 .left) in
+    let nested = ap (every _) (sym (s .pre .0)) ∙ sym (a .active-nested .ensures) ∙ not-false _ (c .before .before .before .if3 .left) in
     let shown = sym (c .before .before .nested-active .ensures) ∙ not-false _ (c .before .if4 .left) in
     c .are-distinct .ensures ∙ and-last (and-true-of (and-true-of (and-true-of fits unused) nested) shown)
 

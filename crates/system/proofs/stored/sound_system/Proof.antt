@@ -34,7 +34,10 @@ both-requires-4 c κs = search needs
 
 returns : tie.Need-returns
 unfolding soundSystem
-returns c = c .both4 .ensures ∙ simp (c .before .both3 .ensures, c .before .before .both2 .ensures, c .before .before .before .both .ensures, c .before .before .before .before .before .kept-bits2 .ensures, c .before .before .before .before .before .before .before .kept-faultstat .ensures, c .before .before .before .before .before .before .before .before .before .kept-cfgctrl .ensures, c .before .before .before .before .before .before .before .before .before .before .before .kept-sysctrl .ensures, c .before .before .before .before .before .before .before .before .before .before .before .before .before .kept-bits .ensures)
+returns c =
+    let b = c .before .before .before .before .before in
+    let f = b .before .before .before .before in
+    c .both4 .ensures ∙ simp (c .before .both3 .ensures, c .before .before .both2 .ensures, c .before .before .before .both .ensures, b .kept-bits2 .ensures, b .before .before .kept-faultstat .ensures, f .kept-cfgctrl .ensures, f .before .before .kept-sysctrl .ensures, f .before .before .before .before .kept-bits .ensures)
 
 pub sound-system-spec : {M : Type 1} → statement M
 sound-system-spec =

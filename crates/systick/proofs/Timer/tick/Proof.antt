@@ -38,10 +38,11 @@ steady-requires-3 c κs = search needs
 returns-4 : tie.Need-returns-4
 unfolding tickOf
 returns-4 c =
+    let e = c .before .before .before .before in
     c .steady3 .ensures
     ∙ simp (
-      eq-eqb _ _ (c .before .before .before .before .before .before .if1 .left),
-      ne-eqb _ _ (c .before .before .before .before .if2 .left),
+      eq-eqb _ _ (e .before .before .if1 .left),
+      ne-eqb _ _ (e .if2 .left),
       ne-eqb _ _ (c .before .before .if3 .left),
     )
 
