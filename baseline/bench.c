@@ -1,16 +1,18 @@
-/* A plain C version of document 01's rules: an independent check of `bench`, and what its speed is measured against.
- * Reads a script from standard input and prints bench's lines; with an argument N it runs the script N times without
- * printing, testing the state before each event as a library call does, and prints only the sum of refusals and values. */
+/* A plain C version of the rules of documents 01 and 02: an independent check of `bench` and `simulate`, and what their speed
+ * is measured against. Reads a script from standard input and prints its lines. The words after its name are those of
+ * `simulate`: without any, the chip is the one of `bench`. One word more, `--times N`, is for measuring alone: the script runs
+ * N times without printing, the state tested before each event as a library call does, and only the sum of refusals and
+ * values is printed. */
 #include <stdint.h>
 #include <stdio.h>
 #include <stdlib.h>
 #include <string.h>
 
-enum { LINES = 55, FLAGS = 16 + LINES, NEST = 8 + LINES };
+enum { FLAGS = 256, NEST = 248 }; /* of the chip with 240 lines; the other uses the first places */
 
 typedef struct {
     uint8_t pending[FLAGS], active[FLAGS], enabled[FLAGS], level[FLAGS], priority[FLAGS], nest[NEST];
-    int depth;
+    int lines, depth;
     uint32_t group, basepri, primask, faultmask, npriv, spsel;
     uint32_t st_control, st_reload, st_current, st_count;
     uint32_t mpu_control, mpu_region, mpu_base[8], mpu_attributes[8];
@@ -22,7 +24,11 @@ typedef struct { uint32_t refusal, value; } Answer;
 static Answer refuse(uint32_t n) { return (Answer){n, 0}; }
 static Answer done(uint32_t v) { return (Answer){0, v}; }
 
-static void fresh(Model *m) { memset(m, 0, sizeof *m); m->cfgctrl = 0x200; }
+static void fresh(Model *m, int lines) { memset(m, 0, sizeof *m); m->lines = lines; m->cfgctrl = 0x200; }
+
+static int flags(const Model *m) { return 16 + m->lines; }
+
+static uint32_t vtable_mask(const Model *m) { return m->lines == 240 ? 0x3FFFFC00 : 0x3FFFFE00; }
 
 static int full(const Model *m, int n) { return n == 2 ? -2 : n == 3 ? -1 : m->priority[n]; }
 
@@ -54,17 +60,21 @@ typedef enum { MISSING, ICTYPE, STCTRL, STRELOAD, STCURRENT, ENABLE_SET, ENABLE_
     CPUID, INTCTRL, VTABLE, APINT, SYSCTRL, CFGCTRL, SYSHNDCTRL, FAULTSTAT, HFAULTSTAT, MMADDR, FAULTADDR, SWTRIG,
     MPU_TYPE, MPU_CONTROL, MPU_NUMBER, MPU_BASE, MPU_ATTRIBUTES } Register;
 
-static Register register_at(uint32_t a, int *first) {
+/* The register of the word at `a`; of a register of lines or of bytes also the first exception number that it shows. */
+static Register register_at(const Model *m, uint32_t a, int *first) {
+    static const Register banks[5] = {ENABLE_SET, ENABLE_CLEAR, PENDING_SET, PENDING_CLEAR, ACTIVE};
+    uint32_t line = (a % 0x80) * 8;
+    if (a >= 0xE000E100 && a < 0xE000E380) {
+        if (line >= (uint32_t)m->lines) return MISSING;
+        *first = 16 + (int)line;
+        return banks[(a - 0xE000E100) / 0x80];
+    }
+    if (a >= 0xE000E400 && a < 0xE000E400 + (uint32_t)m->lines) { *first = 16 + (int)(a - 0xE000E400); return BYTES; }
     switch (a) {
     case 0xE000E004: return ICTYPE;
     case 0xE000E010: return STCTRL;
     case 0xE000E014: return STRELOAD;
     case 0xE000E018: return STCURRENT;
-    case 0xE000E100: case 0xE000E104: *first = 16 + (int)(a - 0xE000E100) * 8; return ENABLE_SET;
-    case 0xE000E180: case 0xE000E184: *first = 16 + (int)(a - 0xE000E180) * 8; return ENABLE_CLEAR;
-    case 0xE000E200: case 0xE000E204: *first = 16 + (int)(a - 0xE000E200) * 8; return PENDING_SET;
-    case 0xE000E280: case 0xE000E284: *first = 16 + (int)(a - 0xE000E280) * 8; return PENDING_CLEAR;
-    case 0xE000E300: case 0xE000E304: *first = 16 + (int)(a - 0xE000E300) * 8; return ACTIVE;
     case 0xE000ED00: return CPUID;
     case 0xE000ED04: return INTCTRL;
     case 0xE000ED08: return VTABLE;
@@ -84,35 +94,34 @@ static Register register_at(uint32_t a, int *first) {
     case 0xE000EDA0: case 0xE000EDA8: case 0xE000EDB0: case 0xE000EDB8: return MPU_ATTRIBUTES;
     case 0xE000EF00: return SWTRIG;
     }
-    if (a >= 0xE000E400 && a <= 0xE000E434) { *first = 16 + (int)(a - 0xE000E400); return BYTES; }
     return MISSING;
 }
 
-static int has_byte(int n) { return (n >= 4 && n <= 6) || n == 11 || n == 14 || n == 15 || (n >= 16 && n < FLAGS); }
+static int has_byte(int lines, int n) { return (n >= 4 && n <= 6) || n == 11 || n == 14 || n == 15 || (n >= 16 && n < 16 + lines); }
 
-static uint32_t flags_word(const uint8_t *flags, int first) {
+static uint32_t flags_word(const Model *m, const uint8_t *flag, int first) {
     uint32_t w = 0;
-    for (int i = 0; i < 32 && first + i < FLAGS; i++) w |= (uint32_t)flags[first + i] << i;
+    for (int i = 0; i < 32 && first + i < flags(m); i++) w |= (uint32_t)flag[first + i] << i;
     return w;
 }
 
 static uint32_t read_register(Model *m, Register r, int first) {
     uint32_t w = 0;
     switch (r) {
-    case ICTYPE: return 1;
+    case ICTYPE: return (uint32_t)(m->lines - 1) / 32;
     case STCTRL: w = m->st_control | m->st_count << 16; m->st_count = 0; return w;
     case STRELOAD: return m->st_reload;
     case STCURRENT: return m->st_current;
-    case ENABLE_SET: case ENABLE_CLEAR: return flags_word(m->enabled, first);
-    case PENDING_SET: case PENDING_CLEAR: return flags_word(m->pending, first);
-    case ACTIVE: return flags_word(m->active, first);
+    case ENABLE_SET: case ENABLE_CLEAR: return flags_word(m, m->enabled, first);
+    case PENDING_SET: case PENDING_CLEAR: return flags_word(m, m->pending, first);
+    case ACTIVE: return flags_word(m, m->active, first);
     case BYTES:
-        for (int i = 0; i < 4; i++) if (has_byte(first + i)) w |= (uint32_t)m->priority[first + i] << 8 * i;
+        for (int i = 0; i < 4; i++) if (has_byte(m->lines, first + i)) w |= (uint32_t)m->priority[first + i] << 8 * i;
         return w;
     case CPUID: return 0x412FC230;
     case INTCTRL: {
         uint32_t any = 0;
-        for (int n = 16; n < FLAGS; n++) any |= m->pending[n];
+        for (int n = 16; n < flags(m); n++) any |= m->pending[n];
         return (uint32_t)m->pending[2] << 31 | m->pending[14] << 28 | m->pending[15] << 26 | any << 22 | (m->depth < 2) << 11 | top(m);
     }
     case VTABLE: return m->vtable;
@@ -137,7 +146,7 @@ static uint32_t read_register(Model *m, Register r, int first) {
     return 0;
 }
 
-static void write_byte(Model *m, int n, uint32_t v) { if (has_byte(n)) m->priority[n] = v & 0xE0; }
+static void write_byte(Model *m, int n, uint32_t v) { if (has_byte(m->lines, n)) m->priority[n] = v & 0xE0; }
 
 static void write_register(Model *m, Register r, int first, uint32_t v) {
     switch (r) {
@@ -145,13 +154,13 @@ static void write_register(Model *m, Register r, int first, uint32_t v) {
     case STRELOAD: m->st_reload = v & 0xFFFFFF; break;
     case STCURRENT: m->st_current = m->st_count = 0; break;
     case ENABLE_SET: case ENABLE_CLEAR:
-        for (int i = 0; i < 32 && first + i < FLAGS; i++) if (v >> i & 1) m->enabled[first + i] = r == ENABLE_SET;
+        for (int i = 0; i < 32 && first + i < flags(m); i++) if (v >> i & 1) m->enabled[first + i] = r == ENABLE_SET;
         break;
     case PENDING_SET:
-        for (int i = 0; i < 32 && first + i < FLAGS; i++) if (v >> i & 1) m->pending[first + i] = 1;
+        for (int i = 0; i < 32 && first + i < flags(m); i++) if (v >> i & 1) m->pending[first + i] = 1;
         break;
     case PENDING_CLEAR:
-        for (int i = 0; i < 32 && first + i < FLAGS; i++)
+        for (int i = 0; i < 32 && first + i < flags(m); i++)
             if ((v >> i & 1) && !(m->level[first + i] && !m->active[first + i])) m->pending[first + i] = 0;
         break;
     case BYTES: for (int i = 0; i < 4; i++) write_byte(m, first + i, v >> 8 * i); break;
@@ -162,14 +171,14 @@ static void write_register(Model *m, Register r, int first, uint32_t v) {
         if (v >> 26 & 1) m->pending[15] = 1;
         if (v >> 25 & 1) m->pending[15] = 0;
         break;
-    case VTABLE: m->vtable = v & 0x3FFFFE00; break;
+    case VTABLE: m->vtable = v & vtable_mask(m); break;
     case APINT: if (v >> 16 == 0x05FA) m->group = v >> 8 & 7; break;
     case SYSCTRL: m->sysctrl = v & 0x16; break;
     case CFGCTRL: m->cfgctrl = v & 0x31A; break;
     case SYSHNDCTRL: for (int i = 0; i < 3; i++) m->enabled[4 + i] = v >> (16 + i) & 1; break;
     case FAULTSTAT: m->faultstat &= ~v; break;
     case HFAULTSTAT: m->hfaultstat &= ~v; break;
-    case SWTRIG: if ((v & 0x1FF) < LINES) m->pending[16 + (v & 0x1FF)] = 1; break;
+    case SWTRIG: if ((v & 0x1FF) < (uint32_t)m->lines) m->pending[16 + (v & 0x1FF)] = 1; break;
     case MPU_CONTROL: m->mpu_control = v & 7; break;
     case MPU_NUMBER: if (v <= 7) m->mpu_region = v; break;
     case MPU_BASE:
@@ -185,7 +194,7 @@ static uint32_t check(const Model *m, int free, uint32_t w, uint32_t a, Register
     if (w != 1 && w != 2 && w != 4) return 1;
     if (a % w) return 2;
     if (!privileged(m) && !free) return 3;
-    *r = register_at(a & ~3u, first);
+    *r = register_at(m, a & ~3u, first);
     if (*r == MISSING) return 4;
     if (w != 4 && !(w == 1 && *r == BYTES)) return 5;
     return 0;
@@ -213,7 +222,7 @@ static Answer write_event(Model *m, uint32_t w, uint32_t a, uint32_t v) {
 /* ---- the other events */
 
 static Answer line_event(Model *m, uint32_t line, uint32_t level) {
-    if (line >= LINES || level > 1) return refuse(6);
+    if (line >= (uint32_t)m->lines || level > 1) return refuse(6);
     if (level && !m->level[16 + line]) m->pending[16 + line] = 1;
     m->level[16 + line] = (uint8_t)level;
     return done(0);
@@ -263,7 +272,7 @@ static Answer special_event(Model *m, uint32_t which, uint32_t v) {
 
 static Answer entry_event(Model *m) {
     int limit = execution(m), best = 0;
-    for (int n = 1; n < FLAGS; n++)
+    for (int n = 1; n < flags(m); n++)
         if (m->pending[n] && is_enabled(m, n) && grouped(m, full(m, n)) < limit && (!best || full(m, n) < full(m, best))) best = n;
     if (!best) return refuse(8);
     m->pending[best] = 0;
@@ -353,40 +362,46 @@ static Answer step(Model *m, uint32_t kind, const uint32_t *a) {
     }
 }
 
-/* ---- the test of refusal 16 */
+/* ---- the test of refusal 16. It goes over every place before every event: the loops are compiled for each chip. */
+
+#define INLINE static inline __attribute__((always_inline))
 
 static int is_line(int n) { return n >= 16; }
 
-static int is_exception(int n) { return n == 2 || n == 3 || has_byte(n); }
+static int is_exception(int lines, int n) { return n == 2 || n == 3 || has_byte(lines, n); }
 
-static int sound_numbers(const Model *m) {
-    for (int n = 0; n < FLAGS; n++) {
-        if ((m->pending[n] || m->active[n]) && !is_exception(n)) return 0;
+INLINE int sound_numbers(const Model *m, int lines) {
+    for (int n = 0; n < 16 + lines; n++) {
+        if ((m->pending[n] || m->active[n]) && !is_exception(lines, n)) return 0;
         if (m->enabled[n] && !(n >= 4 && n <= 6) && !is_line(n)) return 0;
         if (m->level[n] && !is_line(n)) return 0;
-        if (m->priority[n] & (has_byte(n) ? 0x1F : 0xFF)) return 0;
+        if (m->priority[n] & (has_byte(lines, n) ? 0x1F : 0xFF)) return 0;
     }
     return 1;
 }
 
-static int sound_nest(const Model *m) {
+INLINE int sound_nest(const Model *m, int lines) {
     int actives = 0;
-    if (m->depth > NEST) return 0;
+    if (m->depth > 8 + lines) return 0;
     for (int i = 0; i < m->depth; i++) {
-        if (m->nest[i] >= FLAGS || !m->active[m->nest[i]]) return 0;
+        if (m->nest[i] >= 16 + lines || !m->active[m->nest[i]]) return 0;
         for (int j = 0; j < i; j++) if (m->nest[j] == m->nest[i]) return 0;
     }
-    for (int i = m->depth; i < NEST; i++) if (m->nest[i]) return 0;
-    for (int n = 0; n < FLAGS; n++) actives += m->active[n];
+    for (int i = m->depth; i < 8 + lines; i++) if (m->nest[i]) return 0;
+    for (int n = 0; n < 16 + lines; n++) actives += m->active[n];
     return actives == m->depth;
 }
 
+static int sound_lists(const Model *m) {
+    return m->lines == 55 ? sound_numbers(m, 55) && sound_nest(m, 55) : sound_numbers(m, 240) && sound_nest(m, 240);
+}
+
 static int sound(const Model *m) {
-    if (!sound_numbers(m) || !sound_nest(m) || m->group > 7 || m->basepri & ~0xE0u) return 0;
+    if (!sound_lists(m) || m->group > 7 || m->basepri & ~0xE0u) return 0;
     if (m->st_control > 7 || m->st_reload > 0xFFFFFF || m->st_current > 0xFFFFFF) return 0;
     if (m->mpu_control > 7 || m->mpu_region > 7) return 0;
     for (int i = 0; i < 8; i++) if (m->mpu_base[i] & 31 || m->mpu_attributes[i] & ~0x173FFF3Fu) return 0;
-    return !(m->vtable & ~0x3FFFFE00u || m->sysctrl & ~0x16u || m->cfgctrl & ~0x31Au || m->faultstat & ~0x030F8383u
+    return !(m->vtable & ~vtable_mask(m) || m->sysctrl & ~0x16u || m->cfgctrl & ~0x31Au || m->faultstat & ~0x030F8383u
         || m->hfaultstat & ~0x40000000u);
 }
 
@@ -414,9 +429,9 @@ static void put_line(uint32_t number, Answer r, const Model *m) {
 }
 
 /* Runs the script once; the refusal that breaks it, with the place, or 0. */
-static uint32_t run(const uint8_t *s, size_t n, int print, uint64_t *sum, size_t *bad) {
+static uint32_t run(int lines, const uint8_t *s, size_t n, int print, uint64_t *sum, size_t *bad) {
     Model m;
-    fresh(&m);
+    fresh(&m, lines);
     size_t at = 0;
     for (uint32_t k = 1; at < n; k++) {
         uint32_t kind, a[3] = {0, 0, 0};
@@ -431,17 +446,35 @@ static uint32_t run(const uint8_t *s, size_t n, int print, uint64_t *sum, size_t
     return 0;
 }
 
+/* What the words after the program's name say; 0 where one is unknown or given twice, or its value is missing or wrong. */
+static int words(int argc, char **argv, int *lines, long *times) {
+    for (int i = 1; i < argc; i += 2) {
+        const char *value = i + 1 < argc ? argv[i + 1] : "";
+        if (!strcmp(argv[i], "--lines") && !*lines && (!strcmp(value, "55") || !strcmp(value, "240"))) *lines = atoi(value);
+        else if (!strcmp(argv[i], "--times") && !*times && atol(value) > 0) *times = atol(value);
+        else return 0;
+    }
+    if (!*lines) *lines = 55;
+    return 1;
+}
+
 int main(int argc, char **argv) {
     static uint8_t script[65537];
+    int lines = 0;
+    long times = 0;
+    if (!words(argc, argv, &lines, &times)) {
+        printf("usage: simulate [--lines 55|240]\n");
+        return 0;
+    }
     size_t n = fread(script, 1, sizeof script, stdin), bad = 65536;
     uint64_t sum = 0;
     uint32_t broken = 15;
-    if (argc > 1) {
-        for (long i = atol(argv[1]); i > 0; i--) run(script, n, 0, &sum, &bad);
+    if (times) {
+        while (times--) run(lines, script, n, 0, &sum, &bad);
         printf("%llu\n", (unsigned long long)sum);
         return 0;
     }
-    if (n <= 65536) broken = run(script, n, 1, &sum, &bad);
+    if (n <= 65536) broken = run(lines, script, n, 1, &sum, &bad);
     fwrite(out, 1, out_length, stdout);
     if (broken) printf("script %u at %zu\n", broken, bad);
     return 0;

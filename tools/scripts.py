@@ -1,16 +1,39 @@
-"""Random scripts of document 01's events, the same for the same seed: mostly sensible arguments, some out of range."""
+"""Random scripts of the events of documents 01 and 02, the same for the same seed: mostly sensible arguments, some out of range.
+
+A script is made for a chip of 55 or 240 lines and may be run on either. Those for 55 lines that keep no proviso and have no deep nest
+stay what they are, so that measurements can be compared.
+"""
 import random
 
-ADDRESSES = (
-    [0xE000E004, 0xE000E010, 0xE000E014, 0xE000E018, 0xE000ED00, 0xE000ED04, 0xE000ED08, 0xE000ED0C, 0xE000ED10, 0xE000ED14]
-    + [0xE000E000 + o + 4 * k for o in (0x100, 0x180, 0x200, 0x280, 0x300) for k in (0, 1, 2)]
-    + [0xE000E400 + 4 * k for k in range(15)]
-    + [0xE000ED18, 0xE000ED1C, 0xE000ED20, 0xE000ED24, 0xE000ED28, 0xE000ED2C, 0xE000ED30, 0xE000ED34, 0xE000ED38]
-    + [0xE000ED90 + 4 * k for k in range(12)]
-    + [0xE000EF00, 0x20000000]
-)
+SWTRIG = 0xE000EF00
 LINKS = [0xFFFFFFF1, 0xFFFFFFF9, 0xFFFFFFFD, 0xFFFFFFE9]
 FAULTS = [0, 1, 8, 9, 16, 17, 18, 19, 24, 25, 2, 31, 40]
+BANKS = (0xE000E100, 0xE000E180, 0xE000E200, 0xE000E280, 0xE000E300)
+KINDS = {  # the rarer the NMI, the more of the lines is seen
+    55: [1, 2, 2, 2, 3, 3, 3, 4, 5, 5, 6, 7, 8, 9, 9, 9, 10, 10, 11, 11],
+    240: [1, 2, 2, 2, 3, 3, 3, 5, 6, 7, 8, 9, 9, 9, 10, 10, 10, 11] * 4 + [4],
+}
+EDGES = {55: [55], 240: [54, 55, 239, 240, 255, 256]}  # lines at the chips' ends, and past them
+
+# What E4's proviso leaves out, first and last byte. The word at E434 reaches into the last of them.
+NOT_OLD = [(0xE000E004, 0xE000E004), *((b + 4, b + 0x1F) for b in BANKS), (0xE000E437, 0xE000E4EF), (0xE000ED08, 0xE000ED08)]
+
+
+def addresses(lines):
+    """Words of registers; of the banks and of the priority bytes also the first word past the end."""
+    often = lines // 55  # else the many words of the larger chip would crowd the others out
+    return (
+        [0xE000E004, 0xE000E010, 0xE000E014, 0xE000E018, 0xE000ED00, 0xE000ED04, 0xE000ED08, 0xE000ED0C, 0xE000ED10, 0xE000ED14] * often
+        + [b + 4 * k for b in BANKS for k in range((lines + 31) // 32 + 1)]
+        + [0xE000E400 + 4 * k for k in range((lines + 3) // 4 + 1)]
+        + [0xE000ED18, 0xE000ED1C, 0xE000ED20, 0xE000ED24, 0xE000ED28, 0xE000ED2C, 0xE000ED30, 0xE000ED34, 0xE000ED38] * often
+        + [0xE000ED90 + 4 * k for k in range(12)] * often
+        + [SWTRIG] * often**2
+        + [0x20000000] * often
+    )
+
+
+ADDRESSES = {lines: addresses(lines) for lines in EDGES}
 
 
 def number(n):
@@ -26,16 +49,23 @@ def word(r):
     return r.choice([r.getrandbits(32), 1 << r.randrange(32), r.randrange(256), 0x05FA0000 | r.randrange(8) << 8, 0xFFFFFFFF, 0x300003F])
 
 
-def event(r):
-    kind = r.choice([1, 2, 2, 2, 3, 3, 3, 4, 5, 5, 6, 7, 8, 9, 9, 9, 10, 10, 11, 11])
+def value(r, lines, address):
+    if lines > 55 and address == SWTRIG:
+        return r.choice([r.randrange(512), r.randrange(512), 512 + r.randrange(lines), 54, 55, 239, 240, 511, 512, word(r)])
+    return word(r)
+
+
+def event(r, lines):
+    kind = r.choice(KINDS[lines])
     if kind == 1:
-        width, address = r.choice([4, 4, 4, 1, 2, 3]), r.choice(ADDRESSES)
+        width, address = r.choice([4, 4, 4, 1, 2, 3]), r.choice(ADDRESSES[lines])
         return [kind, width, address + (r.randrange(4) if width == 1 else 0)]
     if kind == 2:
-        width, address = r.choice([4, 4, 4, 1]), r.choice(ADDRESSES)
-        return [kind, width, address + (r.randrange(4) if width == 1 else 0), word(r)]
+        width, address = r.choice([4, 4, 4, 1]), r.choice(ADDRESSES[lines])
+        return [kind, width, address + (r.randrange(4) if width == 1 else 0), value(r, lines, address)]
     if kind == 3:
-        return [kind, r.choice([r.randrange(55), r.randrange(4), 55]), r.choice([0, 1, 1, 2])]
+        edges = EDGES[lines]
+        return [kind, r.choice([*(r.randrange(lines) for _ in edges), r.randrange(4), *edges]), r.choice([0, 1, 1, 2])]
     if kind == 6:
         return [kind, r.choice(FAULTS), r.getrandbits(32)]
     if kind == 8:
@@ -47,12 +77,54 @@ def event(r):
     return [kind]
 
 
-def script(seed, length):
-    """At most `length` bytes of whole events."""
-    r = random.Random(seed)
-    out = bytearray()
+def shown(width, address, value):
+    """The read that shows what a write did; of SWTRIG the pending flags around the line that bits 7:0 name."""
+    return [1, 4, 0xE000E200 + 4 * (value % 256 // 32)] if address == SWTRIG else [1, width, address]
+
+
+def nest(r, lines):
+    """Events that nest many exceptions, often all: each comes at the highest priority and is put at the lowest once it is entered."""
+    yield [2, 4, 0xE000ED24, 0x70000]
+    for k in range((lines + 31) // 32):
+        yield [2, 4, 0xE000E100 + 4 * k, 0xFFFFFFFF]
+    arrivals = [([3, line, 1], 0xE000E400 + line) for line in range(lines)]
+    arrivals += [([6, 0, 0], 0xE000ED18), ([6, 8, 0], 0xE000ED19), ([6, 16, 0], 0xE000ED1A), ([7], 0xE000ED1F)]
+    arrivals += [([2, 4, 0xE000ED04, 1 << 28], 0xE000ED22), ([2, 4, 0xE000ED04, 1 << 26], 0xE000ED23)]
+    for arrival, byte in r.sample(arrivals, r.choice([len(arrivals), r.randrange(len(arrivals))])):
+        yield from ([2, 1, byte, 0], arrival, [9], [2, 1, byte, 0xE0])
+    if r.randrange(2):
+        yield from ([6, 0, 0], [9], [4], [9])  # where MemManage is active, its fault goes to HardFault
+
+
+def is_old(event):
+    """Whether E4's proviso lets the event stand in an old script."""
+    if event[0] == 3:
+        return event[1] <= 54
+    if event[0] in (1, 2):
+        width, address = event[1:3]
+        if event[0] == 2 and address == SWTRIG and event[3] % 512 > 54:
+            return False
+        return not any(address <= last and address + width > first for first, last in NOT_OLD)
+    return True
+
+
+def events(r, lines, deep):
+    if deep:
+        yield from nest(r, lines)
     while True:
-        more = b"".join(number(n) for n in event(r))
+        one = event(r, lines)
+        yield one
+        if lines > 55 and one[0] == 2 and r.randrange(2):
+            yield shown(*one[1:])
+
+
+def script(seed, length, lines=55, old=False, deep=False):
+    """At most `length` bytes of whole events; only those of an old script, or with a deep nest first, if so asked."""
+    out = bytearray()
+    for one in events(random.Random(seed), lines, deep):
+        if old and not is_old(one):
+            continue
+        more = b"".join(number(n) for n in one)
         if len(out) + len(more) > length:
             return bytes(out)
         out += more

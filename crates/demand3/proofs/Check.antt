@@ -115,21 +115,21 @@ module _ (c : Chip) where
   of-stacked active xs size t n b =
       isIn-mem n xs (of-if (on active n) (isIn n xs) (of-every (nestedSound active xs) (flagCount c) n (rw size at (flag-below active n b)) t) b)
 
-system-of : (s : System) → SoundSystem s → T (soundSystem s)
+system-of : (c : Chip) (s : System) → SoundSystem c s → T (soundSystem c s)
 unfolding soundSystem
-system-of s h =
-    let a = same (keptVtable (s .vtable)) (s .vtable) (h .vtable) in
+system-of c s h =
+    let a = same (keptVtable c (s .vtable)) (s .vtable) (h .vtable) in
     let b = same (keptSysctrl (s .sysctrl)) (s .sysctrl) (h .sysctrl) in
     let d = same (keptCfgctrl (s .cfgctrl)) (s .cfgctrl) (h .cfgctrl) in
     let e = same (keptFaultstat (s .faultstat)) (s .faultstat) (h .faultstat) in
     let f = same (keptHfaultstat (s .hfaultstat)) (s .hfaultstat) (h .hfaultstat) in
     search join
 
-of-system : (s : System) → T (soundSystem s) → SoundSystem s
+of-system : (c : Chip) (s : System) → T (soundSystem c s) → SoundSystem c s
 unfolding soundSystem
-of-system s t =
+of-system c s t =
     record {
-      vtable = eqb→eq (keptVtable (s .vtable)) (s .vtable) (search (and-l, and-r));
+      vtable = eqb→eq (keptVtable c (s .vtable)) (s .vtable) (search (and-l, and-r));
       sysctrl = eqb→eq (keptSysctrl (s .sysctrl)) (s .sysctrl) (search (and-l, and-r));
       cfgctrl = eqb→eq (keptCfgctrl (s .cfgctrl)) (s .cfgctrl) (search (and-l, and-r));
       faultstat = eqb→eq (keptFaultstat (s .faultstat)) (s .faultstat) (search (and-l, and-r));
@@ -183,7 +183,7 @@ sound-of {c} {m} h =
     let g = same (keptByte (c .bits) (m .core .masks .basepri)) (m .core .masks .basepri) (h .core .basepri) in
     let i = sound-timer-of (h .core .timer) in
     let j = sound-mpu-of (h .core .guard) in
-    let k = system-of (m .core .system) (h .core .system) in
+    let k = system-of c (m .core .system) (h .core .system) in
     search join depth 10
 
 pub of-sound : (c : Chip) (m : Model) → T (isSound c m) → Sound c m
@@ -206,7 +206,7 @@ of-sound c m t =
         basepri = eqb→eq (keptByte (c .bits) (m .core .masks .basepri)) (m .core .masks .basepri) (search (and-l, and-r) depth 10);
         timer = of-sound-timer (m .core .timer) (search (and-l, and-r) depth 10);
         guard = of-sound-mpu (m .core .guard) (search (and-l, and-r) depth 10);
-        system = of-system (m .core .system) (search (and-l, and-r) depth 10);
+        system = of-system c (m .core .system) (search (and-l, and-r) depth 10);
       };
     }
 

@@ -29,13 +29,13 @@ use Rattle.demand3.proofs.Quiet.{Quiet, stay, put-level, put-masks, put
 
 -- ---- the system block after a fault
 
-pub forced-sound : {s : System} → SoundSystem s → SoundSystem (forced s)
-forced-sound {s} h =
+pub forced-sound : {c : Chip} {s : System} → SoundSystem c s → SoundSystem c (forced s)
+forced-sound {s = s} h =
     record { vtable = h .vtable; sysctrl = h .sysctrl; cfgctrl = h .cfgctrl; faultstat = h .faultstat; hfaultstat = hfaultstat-with _ (s .hfaultstat) (h .hfaultstat) }
 
-pub status-sound : (b address : ℕ) {s : System} → T (inside faultstatFields b) → SoundSystem s → SoundSystem (faultStatus b address s)
+pub status-sound : (b address : ℕ) {c : Chip} {s : System} → T (inside faultstatFields b) → SoundSystem c s → SoundSystem c (faultStatus b address s)
 unfolding faultStatus
-status-sound b address {s} t h =
+status-sound b address {s = s} t h =
     record {
       vtable = h .vtable;
       sysctrl = h .sysctrl;
@@ -91,7 +91,7 @@ module _ {c : Chip} {m : Model} (h : Sound c m) where
   tick-quiet =
       put-timer (by-cases (Quiet c m) (tickOf (m .core .timer) .pends) (λ _. pend-quiet (stay h) 15 tt) (λ _. stay h)) (tick-sound (h .core .timer))
 
-  raised-quiet : (n : ℕ) (s : System) → T (exists c n) → SoundSystem s → Quiet c m (raised (execution m) m n s .next)
+  raised-quiet : (n : ℕ) (s : System) → T (exists c n) → SoundSystem c s → Quiet c m (raised (execution m) m n s .next)
   unfolding raised
   raised-quiet n s e g =
       by-cases Leaves (escalates (execution m) m n)

@@ -70,7 +70,7 @@ module _ {c : Chip} {m t : Model} (q : Quiet c m t) where
   pub put-guard : {x : Mpu} → SoundMpu x → Quiet c m (withGuard x t)
   put-guard f = let h = q .sound .core in put-core (record { group = h .group; basepri = h .basepri; timer = h .timer; guard = f; system = h .system }) refl
 
-  pub put-system : {x : System} → SoundSystem x → Quiet c m (withSystem x t)
+  pub put-system : {x : System} → SoundSystem c x → Quiet c m (withSystem x t)
   put-system f = let h = q .sound .core in put-core (record { group = h .group; basepri = h .basepri; timer = h .timer; guard = h .guard; system = f }) refl
 
   pub pend-quiet : (n : ℕ) → T (exists c n) → Quiet c m (pend n t)

@@ -26,7 +26,7 @@ use Rattle.rules.specs.declared.Register.the-variants as reg
 use Rattle.rules.specs.declared.Chip.{Chip}
 use Rattle.rules.specs.declared.Place.the-variants.{Exception, Enable}
 use Rattle.rules.specs.declared.System.{System}
-use Rattle.rules.specs.Chip.{exists, hasByte}
+use Rattle.rules.specs.Chip.{vtableLow, exists, hasByte}
 use Rattle.rules.specs.Model.{Model, Answer}
 use Rattle.rules.specs.Priorities.{privileged}
 use Rattle.rules.specs.Sound.{Flags, PriorityBytes, SoundSystem, Sound}
@@ -119,21 +119,21 @@ group-below : (v group : ℕ) → group < 8 → apintWritten v group < 8
 unfolding apintWritten
 group-below v group h = by-cases (λ (p : ℕ). p < 8) (eqb (field 31 16 v) 0x05FA) (λ _. field-lt 10 8 v) (λ _. h)
 
-stored-sound : (r : SystemRegister) (v : ℕ) (s : System) → SoundSystem s → SoundSystem (storedWritten r v s)
+stored-sound : (c : Chip) (r : SystemRegister) (v : ℕ) (s : System) → SoundSystem c s → SoundSystem c (storedWritten c r v s)
 unfolding storedWritten
-stored-sound Vtable v s h = record { vtable = kept-twice 29 9 v; sysctrl = h .sysctrl; cfgctrl = h .cfgctrl; faultstat = h .faultstat; hfaultstat = h .hfaultstat }
-stored-sound Sysctrl v s h = record { vtable = h .vtable; sysctrl = sysctrl-twice v; cfgctrl = h .cfgctrl; faultstat = h .faultstat; hfaultstat = h .hfaultstat }
-stored-sound Cfgctrl v s h = record { vtable = h .vtable; sysctrl = h .sysctrl; cfgctrl = cfgctrl-twice v; faultstat = h .faultstat; hfaultstat = h .hfaultstat }
-stored-sound Faultstat v s h = record { vtable = h .vtable; sysctrl = h .sysctrl; cfgctrl = h .cfgctrl; faultstat = faultstat-without (s .faultstat) v (h .faultstat); hfaultstat = h .hfaultstat }
-stored-sound Hfaultstat v s h = record { vtable = h .vtable; sysctrl = h .sysctrl; cfgctrl = h .cfgctrl; faultstat = h .faultstat; hfaultstat = hfaultstat-without (s .hfaultstat) v (h .hfaultstat) }
-stored-sound Ictype v s h = h
-stored-sound Cpuid v s h = h
-stored-sound Intctrl v s h = h
-stored-sound Apint v s h = h
-stored-sound Syshndctrl v s h = h
-stored-sound Mmaddr v s h = h
-stored-sound Faultaddr v s h = h
-stored-sound Swtrig v s h = h
+stored-sound c Vtable v s h = record { vtable = kept-twice 29 (vtableLow c) v; sysctrl = h .sysctrl; cfgctrl = h .cfgctrl; faultstat = h .faultstat; hfaultstat = h .hfaultstat }
+stored-sound c Sysctrl v s h = record { vtable = h .vtable; sysctrl = sysctrl-twice v; cfgctrl = h .cfgctrl; faultstat = h .faultstat; hfaultstat = h .hfaultstat }
+stored-sound c Cfgctrl v s h = record { vtable = h .vtable; sysctrl = h .sysctrl; cfgctrl = cfgctrl-twice v; faultstat = h .faultstat; hfaultstat = h .hfaultstat }
+stored-sound c Faultstat v s h = record { vtable = h .vtable; sysctrl = h .sysctrl; cfgctrl = h .cfgctrl; faultstat = faultstat-without (s .faultstat) v (h .faultstat); hfaultstat = h .hfaultstat }
+stored-sound c Hfaultstat v s h = record { vtable = h .vtable; sysctrl = h .sysctrl; cfgctrl = h .cfgctrl; faultstat = h .faultstat; hfaultstat = hfaultstat-without (s .hfaultstat) v (h .hfaultstat) }
+stored-sound c Ictype v s h = h
+stored-sound c Cpuid v s h = h
+stored-sound c Intctrl v s h = h
+stored-sound c Apint v s h = h
+stored-sound c Syshndctrl v s h = h
+stored-sound c Mmaddr v s h = h
+stored-sound c Faultaddr v s h = h
+stored-sound c Swtrig v s h = h
 
 timer-sound : (r : TimerRegister) (v : ℕ) (t : Timer) → SoundTimer t → SoundTimer (timerWritten r v t)
 unfolding timerWritten
@@ -164,11 +164,11 @@ module _ {c : Chip} {m : Model} (h : Sound c m) where
   system-quiet Apint v = put-group (stay h) (group-below v (m .core .group) (h .core .group))
   system-quiet Syshndctrl v = put-enabled (stay h) (syshndctrl-flags c v (m .enabled) (h .enabled))
   system-quiet Swtrig v = put-pending (stay h) (swtrig-flags c v (m .pending) (h .pending))
-  system-quiet Vtable v = put-system (stay h) (stored-sound Vtable v (m .core .system) (h .core .system))
-  system-quiet Sysctrl v = put-system (stay h) (stored-sound Sysctrl v (m .core .system) (h .core .system))
-  system-quiet Cfgctrl v = put-system (stay h) (stored-sound Cfgctrl v (m .core .system) (h .core .system))
-  system-quiet Faultstat v = put-system (stay h) (stored-sound Faultstat v (m .core .system) (h .core .system))
-  system-quiet Hfaultstat v = put-system (stay h) (stored-sound Hfaultstat v (m .core .system) (h .core .system))
+  system-quiet Vtable v = put-system (stay h) (stored-sound c Vtable v (m .core .system) (h .core .system))
+  system-quiet Sysctrl v = put-system (stay h) (stored-sound c Sysctrl v (m .core .system) (h .core .system))
+  system-quiet Cfgctrl v = put-system (stay h) (stored-sound c Cfgctrl v (m .core .system) (h .core .system))
+  system-quiet Faultstat v = put-system (stay h) (stored-sound c Faultstat v (m .core .system) (h .core .system))
+  system-quiet Hfaultstat v = put-system (stay h) (stored-sound c Hfaultstat v (m .core .system) (h .core .system))
   system-quiet Ictype v = stay h
   system-quiet Cpuid v = stay h
   system-quiet Mmaddr v = stay h

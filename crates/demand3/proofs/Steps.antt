@@ -4,7 +4,8 @@ use mathlib.Core.Path.{_≡_, refl, sym, subst, _∙_}
 use mathlib.Core.List.{List·Memᴰ·not-nil}
 use mathlib.Core.Bool.{false, not}
 use native.Mathlib.Omega.{arith}
-use lib.Dec.{ltb, eqb}
+use lib.Dec.{ltb, leb, eqb}
+use Rattle.bits.specs.Words.{kept}
 use Rattle.priority.specs.declared.Found.{Found}
 use Rattle.priority.specs.declared.Found.the-variants.{At, Nothing}
 use Rattle.bools.specs.Tests.{by-cases}
@@ -19,6 +20,7 @@ use Rattle.rules.specs.declared.Place.the-variants.{Exception, Enable, Line}
 use Rattle.rules.specs.Chip.{flagCount}
 use Rattle.rules.specs.Model.{Model, Answer, stack, fresh}
 use Rattle.rules.specs.Priorities.{groupNumber}
+use Rattle.rules.specs.SystemBlock.{keptVtable}
 use Rattle.rules.specs.Sound.{Sound}
 use Rattle.rules.specs.Nesting.{chosen, enter, entryAt, entryCall, linkFits, returned, returnCall}
 use Rattle.rules.specs.Access.{fitsAccess, accessAt, accessCall}
@@ -96,6 +98,9 @@ module _ {c : Chip} {m : Model} (h : Sound c m) where
   pub step-keeps : (e : Event) → Sound c (stepOf c m e .next)
   step-keeps e = subst (λ a. Sound c (a .next)) (sym (step-sound h e)) (act-sound e)
 
+fresh-vtable : (c : Chip) → keptVtable c 0 ≡ 0
+fresh-vtable c = by-cases (λ (l : ℕ). kept 29 l 0 ≡ 0) (leb (flagCount c) 128) (λ _. refl) (λ _. refl)
+
 pub sound-fresh : (c : Chip) → Sound c (fresh c)
 unfolding fresh
 sound-fresh c =
@@ -112,6 +117,6 @@ sound-fresh c =
         basepri = kept-byte-zero (c .bits);
         timer = timer.fresh-sound;
         guard = mpu.fresh-sound;
-        system = record { vtable = refl; sysctrl = refl; cfgctrl = refl; faultstat = refl; hfaultstat = refl };
+        system = record { vtable = fresh-vtable c; sysctrl = refl; cfgctrl = refl; faultstat = refl; hfaultstat = refl };
       };
     }

@@ -1,6 +1,8 @@
-// The example of README.md: line 0 is enabled, rises and is entered.
+// The examples of README.md. Here line 0 of the chip with 55 lines is enabled, rises and is entered.
 use libc::STDOUT_FILENO;
 use model::State;
+
+mod named;
 
 fn number(n: u32) {
     io::print_decimal(STDOUT_FILENO, n as u64);
@@ -17,4 +19,5 @@ fn main() {
     number(entered.value);
     number(entered.vector);
     number(entered.link);
+    named::run();
 }

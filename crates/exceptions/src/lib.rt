@@ -1,8 +1,20 @@
-// Which exception numbers a chip has, and where a flag of each kind may stand.
+// How many flags and exceptions a chip has, which numbers are exceptions, and where a flag of each kind may stand.
 use rules::Chip;
 use rules::Place;
 ghost use mathlib.Core.Path.{_≡_};
-ghost use Rattle.rules.specs.Chip.{isLine, exists, hasByte, hasEnable, stands};
+ghost use Rattle.rules.specs.Chip.{flagCount, exceptionCount, isLine, exists, hasByte, hasEnable, stands};
+
+pub fn flag_count(chip: Chip) -> usize
+    ensures { λ r. ⌜ r ≡ flagCount chip ⌝ }
+{
+    16 + chip.lines as usize
+}
+
+pub fn exception_count(chip: Chip) -> usize
+    ensures { λ r. ⌜ r ≡ exceptionCount chip ⌝ }
+{
+    8 + chip.lines as usize
+}
 
 pub fn is_line(chip: Chip, n: usize) -> bool
     ensures { λ r. ⌜ r ≡ isLine chip n ⌝ }

@@ -11,4 +11,4 @@ use Rattle.model.specs.Demand3.{answer, Called}
 
 -- "at most 63 are nested"; "at most L + 2 are nested, where L is 8, 4, 2 or 1 by the group setting"
 abbrev pub CodeBounded : Type 0
-CodeBounded = (es : List Event) (rs : List Reply) (t : State) → Called (state (fresh chip55)) es rs t → Bounds es (map answer rs) (model t)
+CodeBounded = (es : List Event) (rs : List Reply) (t : State) → Called (state (fresh chip55)) es rs t → Bounds chip55 63 es (map answer rs) (model t)

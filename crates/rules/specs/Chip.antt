@@ -1,9 +1,12 @@
--- Document 01, "The chip": which exceptions there are.
+-- Document 01, "The chip", and document 02, E4: which chips there are, and which exceptions each has.
 use Prim.Native.Nat.{ℕ, _+_}
 use mathlib.Core.List.{List, [], _∷_}
-use mathlib.Core.Bool.{Bool, false, _&&_, _||_}
+use mathlib.Core.Bool.{Bool, false, cond, _&&_, _||_}
 use lib.Dec.{ltb, leb, eqb}
 use Rattle.rules.specs.declared.Chip.{Chip}
+use Rattle.rules.specs.declared.Part.{Part}
+use Rattle.rules.specs.declared.Part.the-variants.{Lines55, Lines240}
+use Rattle.rules.specs.declared.Setup.{Setup}
 use Rattle.rules.specs.declared.Place.{Place}
 use Rattle.rules.specs.declared.Place.the-variants.{Exception, Enable, Line}
 
@@ -11,11 +14,23 @@ use Rattle.rules.specs.declared.Place.the-variants.{Exception, Enable, L
 abbrev pub chip55 : Chip
 chip55 = record { lines = 55; bits = 3 }
 
--- "Flags are held for numbers 0 to 70"
+-- E4: "The next printer's chip has lines 0 to 239"
+abbrev pub chip240 : Chip
+chip240 = record { lines = 240; bits = 3 }
+
+abbrev pub partChip : Part → Chip
+partChip Lines55 = chip55
+partChip Lines240 = chip240
+
+-- E4: "the library's caller names the chip or setup"
+abbrev pub chipOf : Setup → Chip
+chipOf s = partChip (s .part)
+
+-- "Flags are held for numbers 0 to 70"; E4: "exceptions up to 255"
 abbrev pub flagCount : Chip → ℕ
 flagCount c = 16 + c .lines
 
--- "That makes 63"
+-- "That makes 63"; E4: "the bare bound becomes 248"
 abbrev pub exceptionCount : Chip → ℕ
 exceptionCount c = 8 + c .lines
 
@@ -26,6 +41,11 @@ isIn n (x ∷ xs) = eqb n x || isIn n xs
 -- "System exceptions: 2 NMI, 3 HardFault, 4 MemManage, 5 BusFault, 6 UsageFault, 11 SVCall, 14 PendSV, 15 SysTick."
 abbrev pub systemExceptions : List ℕ
 systemExceptions = 2 ∷ 3 ∷ 4 ∷ 5 ∷ 6 ∷ 11 ∷ 14 ∷ 15 ∷ []
+
+-- How many lowest bits of a vector table's address are 0: the table, a word for each number that has a flag, stands at a multiple of its
+-- size rounded up to a power of 2. Up to 128 vectors that is 512 bytes, above it 1024.
+abbrev pub vtableLow : Chip → ℕ
+vtableLow c = cond (leb (flagCount c) 128) 9 10
 
 -- "Lines 0 to 54 are exceptions 16 to 70."
 abbrev pub isLine : Chip → ℕ → Bool

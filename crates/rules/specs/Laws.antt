@@ -6,11 +6,14 @@ use mathlib.Core.List.{List, [], _∷_, List·Memᴰ, List·Memᴰ·head, List·
 use mathlib.Core.Bool.{Bool, true, false, _&&_, _||_}
 use native.Mathlib.Omega.{arith}
 use lib.Dec.{T, ltb, leb, eqb, ltb→lt, lt→ltb, le→leb, eqb→eq, eqb-refl}
-use Rattle.bools.specs.Tests.{is-false, both, join, either, or-right}
+use Rattle.bits.specs.Words.{kept}
+use Rattle.bits.specs.WordLaws.{kept-lt}
+use Rattle.bools.specs.Tests.{is-false, both, join, either, or-right, by-cases}
 use Rattle.rules.specs.declared.Chip.{Chip}
 use Rattle.rules.specs.declared.Place.{Place}
 use Rattle.rules.specs.declared.Place.the-variants.{Exception, Enable, Line}
 use Rattle.rules.specs.Chip.{isIn, flagCount, systemExceptions, isLine, stands}
+use Rattle.rules.specs.SystemBlock.{keptVtable}
 use Rattle.rules.specs.Nesting.{linkFits}
 
 -- ---- a number in a list
@@ -56,6 +59,14 @@ pub line-stands : (c : Chip) (n : ℕ) (place : Place) → T (isLine c n) → T 
 line-stands c n Exception t = or-right (isIn n systemExceptions) (isLine c n) t
 line-stands c n Enable t = or-right (isIn n (4 ∷ 5 ∷ 6 ∷ [])) (isLine c n) t
 line-stands c n Line t = t
+
+-- ---- the vector table
+
+-- the highest vector's address is a word too
+pub vtable-below : (c : Chip) (x : ℕ) → keptVtable c x ≡ x → x < 0x40000000
+vtable-below c x e =
+    subst (λ (y : ℕ). y < 0x40000000) e
+    (by-cases (λ (l : ℕ). kept 29 l x < 0x40000000) (leb (flagCount c) 128) (λ _. kept-lt 29 9 x (omega arith)) (λ _. kept-lt 29 10 x (omega arith)))
 
 -- ---- return
 

@@ -15,3 +15,4 @@ pub mod Lent
 pub mod Laws
 pub mod Table
 pub mod LineLaws
+pub mod Chip240

@@ -75,7 +75,7 @@ registerAt c a =
 abbrev pub registerOf : Chip → ℕ → Register
 registerOf c a = registerAt c (a - a % 4)
 
--- "All are words; bytes too at E400 to E437 and ED18 to ED23": 4 where there is no register, 5 where the width is not allowed, else 0
+-- "All are words; bytes too at E400 to E437 and ED18 to ED23" (document 02, E4: to E4EF): 4 where there is no register, 5 where the width is not allowed, else 0
 unfoldable pub widthRefusal : Register → ℕ → ℕ
 widthRefusal Missing w = 4
 widthRefusal (Timer r) w = cond (eqb w 4) 0 5

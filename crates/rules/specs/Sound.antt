@@ -64,9 +64,9 @@ soundFlags c pending active enabled level =
     && every (flagSound c Enable enabled) (flagCount c)
     && every (flagSound c Line level) (flagCount c)
 
-unfoldable pub soundSystem : System → Bool
-soundSystem s =
-    eqb (keptVtable (s .vtable)) (s .vtable)
+unfoldable pub soundSystem : Chip → System → Bool
+soundSystem c s =
+    eqb (keptVtable c (s .vtable)) (s .vtable)
     && eqb (keptSysctrl (s .sysctrl)) (s .sysctrl)
     && eqb (keptCfgctrl (s .cfgctrl)) (s .cfgctrl)
     && eqb (keptFaultstat (s .faultstat)) (s .faultstat)
@@ -92,7 +92,7 @@ isSound c m =
     && eqb (keptByte (c .bits) (m .core .masks .basepri)) (m .core .masks .basepri)
     && soundTimer (m .core .timer)
     && soundMpu (m .core .guard)
-    && soundSystem (m .core .system)
+    && soundSystem c (m .core .system)
 
 -- ---- the facts, part by part: each names only the fields that it is about
 
@@ -118,8 +118,8 @@ pub record Places (c : Chip) (nest : List ℕ) (depth : ℕ) : Type 0 where
   pub size : length nest ≡ exceptionCount c
   pub unused : (i : ℕ) → depth ≤ i → getD nest i 0 ≡ 0
 
-pub record SoundSystem (s : System) : Type 0 where
-  pub vtable : keptVtable (s .vtable) ≡ s .vtable
+pub record SoundSystem (c : Chip) (s : System) : Type 0 where
+  pub vtable : keptVtable c (s .vtable) ≡ s .vtable
   pub sysctrl : keptSysctrl (s .sysctrl) ≡ s .sysctrl
   pub cfgctrl : keptCfgctrl (s .cfgctrl) ≡ s .cfgctrl
   pub faultstat : keptFaultstat (s .faultstat) ≡ s .faultstat
@@ -131,7 +131,7 @@ pub record SoundCore (c : Chip) (k : Core) : Type 0 where
   pub basepri : keptByte (c .bits) (k .masks .basepri) ≡ k .masks .basepri
   pub timer : SoundTimer (k .timer)
   pub guard : SoundMpu (k .guard)
-  pub system : SoundSystem (k .system)
+  pub system : SoundSystem c (k .system)
 
 pub record Sound (c : Chip) (m : Model) : Type 0 where
   pub pending : Flags c Exception (m .pending)

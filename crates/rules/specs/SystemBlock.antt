@@ -1,10 +1,12 @@
 -- Document 01, "Registers": the bits that each stored register of the system block keeps.
 use Prim.Native.Nat.{ℕ, _+_}
 use Rattle.bits.specs.Words.{kept}
+use Rattle.rules.specs.declared.Chip.{Chip}
+use Rattle.rules.specs.Chip.{vtableLow}
 
--- "VTABLE, bits 29:9 kept"
-abbrev pub keptVtable : ℕ → ℕ
-keptVtable x = kept 29 9 x
+-- "VTABLE, bits 29:9 kept"; document 02, E4: "VTABLE keeps bits 29:10"
+abbrev pub keptVtable : Chip → ℕ → ℕ
+keptVtable c x = kept 29 (vtableLow c) x
 
 -- ED10: "bits 4, 2, 1 kept"
 abbrev pub keptSysctrl : ℕ → ℕ

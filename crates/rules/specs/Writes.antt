@@ -71,7 +71,7 @@ syshndctrlWritten v enabled = set (set (set enabled 4 (bitAt 16 v)) 5 (bitAt 17 
 unfoldable pub apintWritten : ℕ → ℕ → ℕ
 apintWritten v group = cond (eqb (field 31 16 v) 0x05FA) (field 10 8 v) group
 
--- "SWTRIG: bits 8:0 name a line to make pending, above 54 no effect"
+-- "SWTRIG: bits 8:0 name a line to make pending, above 54 no effect"; document 02, E4: "above 239"
 unfoldable pub swtrigWritten : Chip → ℕ → List Bool → List Bool
 swtrigWritten c v pending = cond (ltb (field 8 0 v) (c .lines)) (set pending (16 + field 8 0 v) true) pending
 
@@ -96,31 +96,31 @@ withHfaultstat x s =
     record { vtable = s .vtable; sysctrl = s .sysctrl; cfgctrl = s .cfgctrl; faultstat = s .faultstat; hfaultstat = x; mmaddr = s .mmaddr; faultaddr = s .faultaddr }
 
 -- the registers of the system block that are plain storage; "writing 1 clears a set bit" of FAULTSTAT and HFAULTSTAT
-unfoldable pub storedWritten : SystemRegister → ℕ → System → System
-storedWritten Vtable v s = withVtable (keptVtable v) s
-storedWritten Sysctrl v s = withSysctrl (keptSysctrl v) s
-storedWritten Cfgctrl v s = withCfgctrl (keptCfgctrl v) s
-storedWritten Faultstat v s = withFaultstat (without 32 (s .faultstat) v) s
-storedWritten Hfaultstat v s = withHfaultstat (without 32 (s .hfaultstat) v) s
-storedWritten Ictype v s = s
-storedWritten Cpuid v s = s
-storedWritten Intctrl v s = s
-storedWritten Apint v s = s
-storedWritten Syshndctrl v s = s
-storedWritten Mmaddr v s = s
-storedWritten Faultaddr v s = s
-storedWritten Swtrig v s = s
+unfoldable pub storedWritten : Chip → SystemRegister → ℕ → System → System
+storedWritten c Vtable v s = withVtable (keptVtable c v) s
+storedWritten c Sysctrl v s = withSysctrl (keptSysctrl v) s
+storedWritten c Cfgctrl v s = withCfgctrl (keptCfgctrl v) s
+storedWritten c Faultstat v s = withFaultstat (without 32 (s .faultstat) v) s
+storedWritten c Hfaultstat v s = withHfaultstat (without 32 (s .hfaultstat) v) s
+storedWritten c Ictype v s = s
+storedWritten c Cpuid v s = s
+storedWritten c Intctrl v s = s
+storedWritten c Apint v s = s
+storedWritten c Syshndctrl v s = s
+storedWritten c Mmaddr v s = s
+storedWritten c Faultaddr v s = s
+storedWritten c Swtrig v s = s
 
 unfoldable pub systemWritten : Chip → SystemRegister → ℕ → Model → Model
 systemWritten c Intctrl v m = withPending (intctrlWritten v (m .pending)) m
 systemWritten c Apint v m = withGroup (apintWritten v (m .core .group)) m
 systemWritten c Syshndctrl v m = withEnabled (syshndctrlWritten v (m .enabled)) m
 systemWritten c Swtrig v m = withPending (swtrigWritten c v (m .pending)) m
-systemWritten c Vtable v m = withSystem (storedWritten Vtable v (m .core .system)) m
-systemWritten c Sysctrl v m = withSystem (storedWritten Sysctrl v (m .core .system)) m
-systemWritten c Cfgctrl v m = withSystem (storedWritten Cfgctrl v (m .core .system)) m
-systemWritten c Faultstat v m = withSystem (storedWritten Faultstat v (m .core .system)) m
-systemWritten c Hfaultstat v m = withSystem (storedWritten Hfaultstat v (m .core .system)) m
+systemWritten c Vtable v m = withSystem (storedWritten c Vtable v (m .core .system)) m
+systemWritten c Sysctrl v m = withSystem (storedWritten c Sysctrl v (m .core .system)) m
+systemWritten c Cfgctrl v m = withSystem (storedWritten c Cfgctrl v (m .core .system)) m
+systemWritten c Faultstat v m = withSystem (storedWritten c Faultstat v (m .core .system)) m
+systemWritten c Hfaultstat v m = withSystem (storedWritten c Hfaultstat v (m .core .system)) m
 systemWritten c Ictype v m = m
 systemWritten c Cpuid v m = m
 systemWritten c Mmaddr v m = m

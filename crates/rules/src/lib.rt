@@ -1,5 +1,7 @@
 // What the rules and the code of every chip share: the chip itself, the parts of the state that hold no array, and the names of the
 // registers.
+ghost use mathlib.Core.Path.{_≡_};
+ghost use Rattle.rules.specs.Chip.{chipOf};
 use mpu::Mpu;
 use mpu::MpuRegister;
 use systick::Timer;
@@ -8,6 +10,32 @@ use systick::Timer;
 pub struct Chip {
     pub lines: u32,
     pub bits: u32,
+}
+
+// The chips that there are, by what they have: 55 lines (document 01), 240 lines (document 02, E4).
+pub enum Part {
+    Lines55,
+    Lines240,
+}
+
+// How a caller names a chip: `chipOf` of the rules.
+pub struct Setup {
+    pub part: Part,
+}
+
+impl Setup {
+    pub fn chip(self) -> Chip
+        ensures { λ r. ⌜ r ≡ chipOf self ⌝ }
+    {
+        let part = self.part;
+        match part {
+            Part::Lines55 => Chip { lines: 55, bits: 3 },
+            Part::Lines240 => Chip {
+                lines: 240,
+                bits: 3,
+            },
+        }
+    }
 }
 
 // Where a flag may stand: at any exception, at those with an enable bit of their own, at the lines.

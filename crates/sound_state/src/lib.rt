@@ -26,7 +26,7 @@ fn is_sized(
 ) -> bool
     ensures { λ r. ⌜ ((core : Core) → r ≡ isSized chip (modelOf (now (pending .entry)) (now (active .entry)) (now (enabled .entry)) (now (level .entry)) (now (priority .entry)) (now (nest .entry)) core)) ⌝ }
 {
-    let flags = 16 + chip.lines as usize;
+    let flags = exceptions::flag_count(chip);
     if pending.len() != flags {
         return false;
     }
@@ -42,12 +42,12 @@ fn is_sized(
     if priority.len() != flags {
         return false;
     }
-    nest.len() == 8 + chip.lines as usize
+    nest.len() == exceptions::exception_count(chip)
 }
 
 // The parts that hold no list.
 fn is_core_sound(chip: Chip, core: Core) -> bool
-    ensures { λ r. ⌜ r ≡ (ltb (core .group) 8 && eqb (keptByte (chip .bits) (core .masks .basepri)) (core .masks .basepri) && soundTimer (core .timer) && soundMpu (core .guard) && soundSystem (core .system)) ⌝ }
+    ensures { λ r. ⌜ r ≡ (ltb (core .group) 8 && eqb (keptByte (chip .bits) (core .masks .basepri)) (core .masks .basepri) && soundTimer (core .timer) && soundMpu (core .guard) && soundSystem chip (core .system)) ⌝ }
 {
     if 8 <= core.group {
         return false;
@@ -65,7 +65,7 @@ fn is_core_sound(chip: Chip, core: Core) -> bool
         return false;
     }
     let system = core.system;
-    system::stored::sound_system(system)
+    system::stored::sound_system(chip, system)
 }
 
 pub fn is_sound(

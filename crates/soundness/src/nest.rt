@@ -1,4 +1,5 @@
 // The nested exceptions are distinct and exactly the active ones, and the places of the nest that are not in use hold 0.
+use bools::both;
 use rules::Chip;
 ghost use mathlib.Core.Path.{_≡_};
 ghost use mathlib.Core.Bool.{not, _&&_, _||_};
@@ -12,27 +13,18 @@ ghost use Rattle.bools.specs.Tests.{implies};
 ghost use Rattle.bools.specs.Every.{every};
 ghost use Rattle.rules.specs.Sound.{nestedSound, allOn, allDistinct, unusedSound, soundNest};
 
-// A place that is not in use holds 0.
-fn place_fits(used: bool, entry: u8) -> bool
-    ensures { λ r. ⌜ r ≡ (used || eqb entry 0) ⌝ }
-{
-    if used {
-        return true;
-    }
-    entry == 0
-}
-
+// A place that is not in use holds 0. Places below the depth are in use, and need no look.
 fn unused_sound(nest: &[u8], depth: usize) -> bool
     ensures { λ r. ⌜ r ≡ every (unusedSound (now (nest .entry)) depth) (length (now (nest .entry))) ⌝ }
 {
-    let mut i = 0;
+    let mut ok = true;
+    let mut i = depth;
+    // No early end: a scan that always runs to its end is done many places at a time.
     while i < nest.len() {
-        if !place_fits(i < depth, nest[i]) {
-            return false;
-        }
+        ok = both(nest[i] == 0, ok);
         i += 1;
     }
-    true
+    ok
 }
 
 fn or_equal(found: bool, n: usize, entry: u8) -> bool

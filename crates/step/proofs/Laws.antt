@@ -5,13 +5,14 @@ use lib.ListN.{length}
 use lib.IntN.{ℤ}
 use Rattle.rules.specs.declared.Chip.{Chip}
 use Rattle.rules.specs.Model.{Model}
+use Rattle.rules.specs.Laws.{vtable-below}
 use Rattle.demand3.proofs.Check.{depth-fits}
 use Rattle.step.specs.Ready.{Ready}
 
 -- what an entry asks
 pub enterable : {c : Chip} {m : Model} {limit : ℤ} → Ready c m limit → (length (m .pending) ≤ 256) × ((m .core .depth < 256) × (m .core .system .vtable < 1073741824))
-enterable r =
+enterable {c} {m} r =
     let l = r .lines in
     let s = r .sound .pending .size in
     let d = depth-fits (r .sound) in
-    (omega arith, (omega arith, omega (arith, r .sound .core .system .vtable)))
+    (omega arith, (omega arith, vtable-below c (m .core .system .vtable) (r .sound .core .system .vtable)))

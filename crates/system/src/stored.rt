@@ -1,11 +1,22 @@
 // The registers of the system block that are plain storage.
 ghost use mathlib.Core.Path.{_≡_};
-ghost use Rattle.rules.specs.SystemBlock.{keptSysctrl, keptCfgctrl, keptFaultstat};
+ghost use Rattle.rules.specs.SystemBlock.{keptVtable, keptSysctrl, keptCfgctrl, keptFaultstat};
 ghost use Rattle.rules.specs.Sound.{soundSystem};
 ghost use Rattle.rules.specs.Writes.{withVtable, withSysctrl, withCfgctrl, withFaultstat, withHfaultstat, storedWritten};
 use bools::both;
+use rules::Chip;
 use rules::System;
 use rules::SystemRegister;
+
+// A table of so many words, its size rounded up to a power of 2: 512 bytes up to 128 vectors, then 1024.
+fn kept_vtable(chip: Chip, x: u32) -> u32
+    ensures { λ r. ⌜ r ≡ keptVtable chip x ⌝ }
+{
+    if exceptions::flag_count(chip) <= 128 {
+        return bits::kept_bits(x, 29, 9);
+    }
+    bits::kept_bits(x, 29, 10)
+}
 
 fn kept_sysctrl(x: u32) -> u32
     ensures { λ r. ⌜ r ≡ keptSysctrl x ⌝ }
@@ -64,11 +75,11 @@ fn with_hfaultstat(mut system: System, x: u32) -> System
 }
 
 // A 1 written to a status register clears that bit.
-pub fn stored_written(system: System, register: SystemRegister, v: u32) -> System
-    ensures { λ r. ⌜ r ≡ storedWritten register v system ⌝ }
+pub fn stored_written(chip: Chip, system: System, register: SystemRegister, v: u32) -> System
+    ensures { λ r. ⌜ r ≡ storedWritten chip register v system ⌝ }
 {
     match register {
-        SystemRegister::Vtable => with_vtable(system, bits::kept_bits(v, 29, 9)),
+        SystemRegister::Vtable => with_vtable(system, kept_vtable(chip, v)),
         SystemRegister::Sysctrl => with_sysctrl(system, kept_sysctrl(v)),
         SystemRegister::Cfgctrl => with_cfgctrl(system, kept_cfgctrl(v)),
         SystemRegister::Faultstat => with_faultstat(system, bits::clear_ones(system.faultstat, v)),
@@ -88,10 +99,10 @@ pub fn stored_written(system: System, register: SystemRegister, v: u32) -> Syste
 }
 
 // Each register holds only its kept bits.
-pub fn sound_system(system: System) -> bool
-    ensures { λ r. ⌜ r ≡ soundSystem system ⌝ }
+pub fn sound_system(chip: Chip, system: System) -> bool
+    ensures { λ r. ⌜ r ≡ soundSystem chip system ⌝ }
 {
-    let vtable = bits::kept_bits(system.vtable, 29, 9) == system.vtable;
+    let vtable = kept_vtable(chip, system.vtable) == system.vtable;
     let sysctrl = kept_sysctrl(system.sysctrl) == system.sysctrl;
     let cfgctrl = kept_cfgctrl(system.cfgctrl) == system.cfgctrl;
     let faultstat = kept_faultstat(system.faultstat) == system.faultstat;

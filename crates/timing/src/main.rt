@@ -7,48 +7,30 @@ use script::ReadEvent;
 
 const TIMES: u64 = 100;
 
-// A script on its way: the state, the offset of the next event, and the sum so far.
-struct Pass {
-    state: State,
-    at: usize,
-    sum: u64,
-}
-
 fn plus(a: u64, b: u32) -> u64 {
     std::num::wrapping_add_u64(a, b as u64)
 }
 
-// One event. Where none can be read nothing moves.
-fn moved(script: &[u8], pass: Pass) -> Pass {
-    let at = pass.at;
-    match script::read_event(script, at) {
-        ReadEvent::Refused(_) => pass,
-        ReadEvent::Found(event, next) => {
-            let state = pass.state;
-            let reply = state.step(event);
-            let left = reply.state;
-            Pass {
-                state: left,
-                at: next,
-                sum: plus(plus(pass.sum, reply.refusal), reply.value),
+// One pass over the script.
+fn run_once(script: &[u8]) -> u64 {
+    let mut state = State::fresh();
+    let mut sum = 0;
+    let mut at = 0;
+    while at < script.len() {
+        match script::read_event(script, at) {
+            ReadEvent::Refused(_) => {
+                return sum;
+            }
+            ReadEvent::Found(event, next) => {
+                let reply = state.step(event);
+                let left = reply.state;
+                state = left;
+                at = next;
+                sum = plus(plus(sum, reply.refusal), reply.value);
             }
         }
     }
-}
-
-// An event takes a byte or more, so a script has no more events than bytes.
-fn run_once(script: &[u8]) -> u64 {
-    let mut pass = Pass {
-        state: State::fresh(),
-        at: 0,
-        sum: 0,
-    };
-    let mut i = 0;
-    while i < script.len() && pass.at < script.len() {
-        pass = moved(script, pass);
-        i += 1;
-    }
-    pass.sum
+    sum
 }
 
 fn run_often(script: &[u8]) -> u64 {

@@ -1,6 +1,6 @@
 -- What agreed so far, followed by what is left to write, is the text of the script.
 use Prim.Native.Nat.{ℕ, _+_, _≤_, _<_}
-use mathlib.Core.Path.{_≡_, refl, sym, _∙_}
+use mathlib.Core.Path.{_≡_, refl, sym, _∙_, subst}
 use mathlib.Core.List.{List, _++_, append-assoc, append-nil}
 use mathlib.Core.Bool.{false, not}
 use native.Mathlib.Numerals.{add-one}
@@ -9,12 +9,18 @@ use lib.ListN.{length, take, drop, getD, length-take, length-drop}
 use lib.Seq.{take-all, take-suc, take-add, getD-drop}
 use borrow.Author.Tests.{not-false}
 use Rattle.numbers.specs.NumberLaws.{Bytes}
-use Rattle.rules.specs.Chip.{chip55}
-use Rattle.run.specs.declared.Progress.{Progress}
+use Rattle.rules.specs.declared.Chip.{Chip}
+use Rattle.rules.specs.declared.Setup.{Setup}
+use Rattle.rules.specs.Chip.{chipOf}
+use Rattle.rules.specs.Model.{Model}
 use Rattle.text.specs.Text.{textOf}
-use Rattle.run.specs.Progress.{restOf, Usable, Ran}
-use Rattle.pieces.specs.Pieces as pieces
+use Rattle.pieces.specs.declared.Course.{Course}
+use Rattle.pieces.specs.Pieces.{restOf, Usable, Ran}
 use Rattle.pieces.proofs.Headway.{onward}
+use Rattle.any_chip.specs.View.{model}
+use Rattle.any_run.specs.declared.Progress.{Progress}
+use Rattle.any_run.specs.Progress as any
+use Rattle.any_run.specs.Progress.{course}
 use Rattle.vectors.specs.Agree.{Agree}
 
 module _ {want : List ℕ} {at : ℕ} {text : List ℕ} where
@@ -30,22 +36,27 @@ module _ {want : List ℕ} {at : ℕ} {text : List ℕ} where
         equal = rw (add-one, take-suc text i 0 h, take-suc (drop at want) i 0 (omega arith), getD-drop, e, a .equal);
       }
 
--- so much of `want` agrees
-pub record Judging (script want : List ℕ) (p : Progress) (at : ℕ) : Type 0 where
+-- So much of `want` agrees, with a script on this chip that has come so far.
+pub record Judging (c : Chip) (script want : List ℕ) (m : Model) (p : Course) (at : ℕ) : Type 0 where
   pub inside : at ≤ length want
-  pub usable : Usable p
-  pub told : take at want ++ restOf script p ≡ textOf chip55 script
+  pub usable : Usable c m p
+  pub told : take at want ++ restOf c script m p ≡ textOf c script
 
-pub judging-next : {script want : List ℕ} {p r : Progress} {at : ℕ} {old new : List ℕ} {same : ℕ} → Bytes script → Judging script want p at → Ran script p old r new → Agree want at (take (r .wrote) new) same → r .wrote ≤ same → Judging script want r (at + same)
-judging-next {want = want} {r = r} {at = at} {new = new} {same = same} small j n a h =
-    let o = onward small n (j .usable) in
-    let whole : take same (drop at want) ≡ take (r .wrote) new = sym (a .equal) ∙ take-all same (take (r .wrote) new) (omega (arith, length-take (r .wrote) new)) in
-    record {
-      inside = a .inside;
-      usable = o .usable;
-      told = rw (take-add, whole, append-assoc, o .told) (j .told);
-    }
+module _ {c : Chip} {script want : List ℕ} {m : Model} {p : Course} {at : ℕ} (j : Judging c script want m p at) where
+  pub judging-next : {t : Model} {r : Course} {old new : List ℕ} {same : ℕ} → Bytes script → Ran c script m p old t r new → Agree want at (take (r .wrote) new) same → r .wrote ≤ same → Judging c script want t r (at + same)
+  judging-next {r = r} {new = new} {same = same} small n a h =
+      let o = onward small n (j .usable) in
+      let whole : take same (drop at want) ≡ take (r .wrote) new = sym (a .equal) ∙ take-all same (take (r .wrote) new) (omega (arith, length-take (r .wrote) new)) in
+      record {
+        inside = a .inside;
+        usable = o .usable;
+        told = rw (take-add, whole, append-assoc, o .told) (j .told);
+      }
 
-pub judged : {script want : List ℕ} {p : Progress} {at : ℕ} → Judging script want p at → not (p .ended) ≡ false → length want ≤ at → want ≡ textOf chip55 script
-unfolding pieces.restOf
-judged {script} {want} {p} {at} j e h = rw (not-false (p .ended) e, append-nil, take-all at want h) at (j .told)
+  pub judged : not (p .ended) ≡ false → length want ≤ at → want ≡ textOf c script
+  unfolding restOf
+  judged e h = rw (not-false (p .ended) e, append-nil, take-all at want h) at (j .told)
+
+-- a call on a progress of this setup is a call on its chip
+pub ran-on : {setup : Setup} {script old new : List ℕ} {p r : Progress} → p .state .setup ≡ setup → any.Ran script p old r new → Ran (chipOf setup) script (model (p .state)) (course p) old (model (r .state)) (course r) new
+ran-on {script = script} {old = old} {new = new} {p = p} {r = r} e n = subst (λ (u : Setup). Ran (chipOf u) script (model (p .state)) (course p) old (model (r .state)) (course r) new) e (n .piece)

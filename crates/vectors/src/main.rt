@@ -1,13 +1,22 @@
 // Runs each script that the arguments name through the library and compares its text with the file named after it.
 // Says of each vector that differs which line is the first to differ, and at the end how many agree.
+// Vectors run on the 55-line chip of `run`, and after a setup word and its value on the chip that these name.
 ghost use mathlib.Core.Path.{_≡_};
 ghost use Prim.Native.Nat.{_+_, _^_, _<_, _≤_};
 ghost use lib.ListN.{length};
 ghost use Rattle.io.specs.Counts.{Counts};
-ghost use Rattle.rules.specs.Chip.{chip55};
+ghost use Rattle.rules.specs.Chip.{chip55, chipOf};
 ghost use Rattle.text.specs.Text.{textOf};
 ghost use Rattle.vectors.specs.Agree.{Agree};
+ghost use Rattle.vectors.specs.Way.{chipBy};
 use libc::STDOUT_FILENO;
+use rules::Setup;
+
+// What a vector runs on.
+enum Way {
+    Run,
+    AnyRun(Setup),
+}
 
 // How many bytes of a text stand in `want` from an offset on.
 fn agreeing(want: &[u8], at: usize, text: &[u8]) -> usize
@@ -70,6 +79,40 @@ fn first_difference(script: &[u8], want: &[u8]) -> usize
     0
 }
 
+// The same on the chip of a setup.
+fn first_difference_on(setup: Setup, script: &[u8], want: &[u8]) -> usize
+    requires { ⌜ length (now want) ≤ 262144 ⌝ }
+    ensures { λ r. ⌜ (r ≡ 0 → now (want .entry) ≡ textOf (chipOf setup) (now (script .entry))) ⌝ }
+{
+    let mut out = io::large_buffer();
+    let mut progress = any_run::start(setup);
+    let mut at = 0;
+    while !progress.ended {
+        progress = any_run::run_some(script, progress, &mut out);
+        let wrote = progress.wrote;
+        let same = agreeing(want, at, &out[..wrote]);
+        if same < wrote {
+            return line_at(want, at + same);
+        }
+        at += same;
+    }
+    if at < want.len() {
+        return line_at(want, at);
+    }
+    0
+}
+
+// .. and by the way that a vector runs.
+fn difference(way: Way, script: &[u8], want: &[u8]) -> usize
+    requires { ⌜ length (now want) ≤ 262144 ⌝ }
+    ensures { λ r. ⌜ (r ≡ 0 → now (want .entry) ≡ textOf (chipBy way) (now (script .entry))) ⌝ }
+{
+    match way {
+        Way::Run => first_difference(script, want),
+        Way::AnyRun(setup) => first_difference_on(setup, script, want),
+    }
+}
+
 fn text(s: &[u8]) {
     io::write_all(STDOUT_FILENO, s);
 }
@@ -122,7 +165,7 @@ fn judged(i: usize, line: usize) -> usize
 }
 
 // The script that an argument names, and the lines that the next one names: 1 if they agree.
-fn vector(i: usize) -> usize
+fn vector(way: Way, i: usize) -> usize
     requires { ⌜ i + 1 < 2 ^ 64 ⌝ }
     ensures { λ r. ⌜ r ≤ 1 ⌝ }
 {
@@ -136,7 +179,7 @@ fn vector(i: usize) -> usize
     if wanted == want.len() {
         return unread(i + 1);
     }
-    judged(i, first_difference(&script[..length], &want[..wanted]))
+    judged(i, difference(way, &script[..length], &want[..wanted]))
 }
 
 fn summary(agreed: usize, vectors: usize) {
@@ -146,13 +189,46 @@ fn summary(agreed: usize, vectors: usize) {
     text(b" vectors agree\n");
 }
 
+fn is_word(i: usize) -> bool {
+    let mut space = [0u8; 64];
+    let n = os::arg(i, &mut space);
+    if n < 2 {
+        return false;
+    }
+    if space[0] != b'-' {
+        return false;
+    }
+    space[1] == b'-'
+}
+
+// The way after a setup word and its value. Words that are wrong are reported, and leave it.
+fn named(way: Way, i: usize) -> Way
+    requires { ⌜ i + 1 < 2 ^ 64 ⌝ }
+{
+    let words = setup_words::pair_at(setup_words::start(), i, i + 1);
+    if words.wrong {
+        unread(i);
+        return way;
+    }
+    let setup = words.setup;
+    Way::AnyRun(setup)
+}
+
 fn main() {
-    let vectors = os::arg_count() / 2;
+    let pairs = os::arg_count() / 2;
+    let mut way = Way::Run;
     let mut agreed = 0;
+    let mut vectors = 0;
     let mut k = 0;
-    while k < vectors {
-        agreed += vector(2 * k + 1);
+    while k < pairs {
+        let i = 2 * k + 1;
         k += 1;
+        if is_word(i) {
+            way = named(way, i);
+            continue;
+        }
+        agreed += vector(way, i);
+        vectors += 1;
     }
     summary(agreed, vectors);
 }

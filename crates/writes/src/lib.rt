@@ -49,11 +49,11 @@ fn apint_written(mut core: Core, v: u32) -> Core
     core
 }
 
-fn stored_written(mut core: Core, register: SystemRegister, v: u32) -> Core
-    ensures { λ r. ⌜ ((m : Model) → withCore r m ≡ withSystem (storedWritten register v (core .system)) (withCore core m)) ⌝ }
+fn stored_written(chip: Chip, mut core: Core, register: SystemRegister, v: u32) -> Core
+    ensures { λ r. ⌜ ((m : Model) → withCore r m ≡ withSystem (storedWritten chip register v (core .system)) (withCore core m)) ⌝ }
 {
     let system = core.system;
-    let next = system::stored::stored_written(system, register, v);
+    let next = system::stored::stored_written(chip, system, register, v);
     core.system = next;
     core
 }
@@ -82,11 +82,11 @@ fn system_written(
             control::swtrig_written(pending, chip, v);
             core
         }
-        SystemRegister::Vtable => stored_written(core, register, v),
-        SystemRegister::Sysctrl => stored_written(core, register, v),
-        SystemRegister::Cfgctrl => stored_written(core, register, v),
-        SystemRegister::Faultstat => stored_written(core, register, v),
-        SystemRegister::Hfaultstat => stored_written(core, register, v),
+        SystemRegister::Vtable => stored_written(chip, core, register, v),
+        SystemRegister::Sysctrl => stored_written(chip, core, register, v),
+        SystemRegister::Cfgctrl => stored_written(chip, core, register, v),
+        SystemRegister::Faultstat => stored_written(chip, core, register, v),
+        SystemRegister::Hfaultstat => stored_written(chip, core, register, v),
         SystemRegister::Ictype => core,
         SystemRegister::Cpuid => core,
         SystemRegister::Mmaddr => core,

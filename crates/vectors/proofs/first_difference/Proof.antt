@@ -6,13 +6,16 @@ use lib.ListN.{length}
 use lib.Seq.{length-take-le}
 use Rattle.numbers.specs.NumberLaws.{Bytes}
 use Rattle.pieces.proofs.Headway.{left, left-falls, headway}
+use Rattle.rules.specs.Chip.{chip55}
+use Rattle.model.specs.View.{model}
+use Rattle.run.specs.Progress.{course}
 use Rattle.vectors.proofs.Laws.{Judging, judging-next, judged}
 use borrow.Author.Needs.{needs}
 use Rattle.vectors.proofs.first_difference.Statement.{statement}
 use Rattle.vectors.proofs.first_difference.Tie as tie
 
 abbrev Inv-loop : tie.InvT-loop
-Inv-loop script want out₀ progress₀ at₀ out progress at = (65536 ≡ length out) × Judging script want progress at
+Inv-loop script want out₀ progress₀ at₀ out progress at = (65536 ≡ length out) × Judging chip55 script want (model (progress .state)) (course progress) at
 
 abbrev μ-loop : tie.MeasureT-loop
 μ-loop script want out₀ progress₀ at₀ out progress at = left (progress .ended) (length script - progress .at)
@@ -75,7 +78,7 @@ loop-less c =
 loop-again : tie.Need-loop-again Inv-loop μ-loop
 loop-again c =
     let r = ran (c .before) in
-    (search needs, judging-next (small (head r)) (head r .loop .inv .1) (r .run-some .ensures) (c .before .agreeing .ensures) (c .if2 .left))
+    (search needs, judging-next (head r .loop .inv .1) (small (head r)) (r .run-some .ensures) (c .before .agreeing .ensures) (c .if2 .left))
 
 line-at-requires-2 : tie.Need-line-at-requires-2 Inv-loop μ-loop
 line-at-requires-2 c κs = let l = c .before .before .before in (l .loop .inv .1 .inside, begun l .pre)

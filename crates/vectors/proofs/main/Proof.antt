@@ -1,4 +1,4 @@
--- No more vectors agree than were run, and the arguments are counted in a usize.
+-- No more vectors agree than were run, no more are run than there are pairs, and the arguments are counted in a usize.
 use Prim.Native.Nat.{_≤_, _-_}
 use native.Mathlib.Omega.{arith}
 use borrow.Author.Needs.{needs}
@@ -6,10 +6,10 @@ use Rattle.vectors.proofs.main.Statement.{statement}
 use Rattle.vectors.proofs.main.Tie as tie
 
 abbrev Inv-loop : tie.InvT-loop
-Inv-loop vectors agreed₀ k₀ agreed k = (k ≤ vectors) × (agreed ≤ k)
+Inv-loop pairs way₀ agreed₀ vectors₀ k₀ way agreed vectors k = (k ≤ pairs) × (vectors ≤ k) × (agreed ≤ vectors)
 
 abbrev μ-loop : tie.MeasureT-loop
-μ-loop vectors agreed₀ k₀ agreed k = vectors - k
+μ-loop pairs way₀ agreed₀ vectors₀ k₀ way agreed vectors k = pairs - k
 
 arg-count-requires : tie.Need-arg-count-requires Inv-loop μ-loop
 arg-count-requires c κs = search needs
@@ -17,11 +17,26 @@ arg-count-requires c κs = search needs
 loop-holds : tie.Need-loop-holds Inv-loop μ-loop
 loop-holds c = omega arith
 
-mul-vector : tie.Need-mul-vector Inv-loop μ-loop
-mul-vector c = omega arith
+mul-i : tie.Need-mul-i Inv-loop μ-loop
+mul-i c = omega arith
 
-add-vector : tie.Need-add-vector Inv-loop μ-loop
-add-vector c = omega arith
+add-i : tie.Need-add-i Inv-loop μ-loop
+add-i c = omega arith
+
+add-k : tie.Need-add-k Inv-loop μ-loop
+add-k c = omega arith
+
+is-word-requires : tie.Need-is-word-requires Inv-loop μ-loop
+is-word-requires c κs = search needs
+
+named-requires : tie.Need-named-requires Inv-loop μ-loop
+named-requires c κs = omega arith
+
+loop-less : tie.Need-loop-less Inv-loop μ-loop
+loop-less c = omega arith
+
+loop-again : tie.Need-loop-again Inv-loop μ-loop
+loop-again c = omega arith
 
 vector-requires : tie.Need-vector-requires Inv-loop μ-loop
 vector-requires c κs = omega arith
@@ -29,14 +44,14 @@ vector-requires c κs = omega arith
 add-agreed : tie.Need-add-agreed Inv-loop μ-loop
 add-agreed c = omega arith
 
-add-k : tie.Need-add-k Inv-loop μ-loop
-add-k c = omega arith
+add-vectors : tie.Need-add-vectors Inv-loop μ-loop
+add-vectors c = omega arith
 
-loop-less : tie.Need-loop-less Inv-loop μ-loop
-loop-less c = omega arith
+loop-less-2 : tie.Need-loop-less-2 Inv-loop μ-loop
+loop-less-2 c = omega arith
 
-loop-again : tie.Need-loop-again Inv-loop μ-loop
-loop-again c = omega arith
+loop-again-2 : tie.Need-loop-again-2 Inv-loop μ-loop
+loop-again-2 c = omega arith
 
 summary-requires : tie.Need-summary-requires Inv-loop μ-loop
 summary-requires c κs = search needs
@@ -52,12 +67,17 @@ main-spec =
     μ-loop
     arg-count-requires
     loop-holds
-    mul-vector
-    add-vector
-    vector-requires
-    add-agreed
+    mul-i
+    add-i
     add-k
+    is-word-requires
+    named-requires
     loop-less
     loop-again
+    vector-requires
+    add-agreed
+    add-vectors
+    loop-less-2
+    loop-again-2
     summary-requires
     returns)

@@ -42,17 +42,17 @@ returns-2 c = search needs
 array-share-prefix-script : tie.Need-array-share-prefix-script
 array-share-prefix-script c = search needs
 
-slice-aggregate-first-difference : tie.Need-slice-aggregate-first-difference
-slice-aggregate-first-difference c = search needs
+slice-aggregate-difference : tie.Need-slice-aggregate-difference
+slice-aggregate-difference c = search needs
 
 array-share-prefix-want : tie.Need-array-share-prefix-want
 array-share-prefix-want c = search needs
 
-slice-aggregate-first-difference-2 : tie.Need-slice-aggregate-first-difference-2
-slice-aggregate-first-difference-2 c = search needs
+slice-aggregate-difference-2 : tie.Need-slice-aggregate-difference-2
+slice-aggregate-difference-2 c = search needs
 
-first-difference-requires : tie.Need-first-difference-requires
-first-difference-requires c κs = let r = c .before .before .before .before .read-file2 in simp length-take (omega (arith, r .ensures .0))
+difference-requires : tie.Need-difference-requires
+difference-requires c κs = let r = c .before .before .before .before .read-file2 in simp length-take (omega (arith, r .ensures .0))
 
 judged-requires : tie.Need-judged-requires
 judged-requires c κs = search needs
@@ -75,9 +75,9 @@ vector-spec =
     unread-requires-2
     returns-2
     array-share-prefix-script
-    slice-aggregate-first-difference
+    slice-aggregate-difference
     array-share-prefix-want
-    slice-aggregate-first-difference-2
-    first-difference-requires
+    slice-aggregate-difference-2
+    difference-requires
     judged-requires
     returns-3)

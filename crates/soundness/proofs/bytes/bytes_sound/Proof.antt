@@ -1,37 +1,62 @@
--- One byte that fails decides; else all are tried.
-use Prim.Native.Nat.{_≤_, _-_}
+-- From 16 on each number is a line and has a byte: after n bytes the answer is that of these n.
+use Prim.Native.Nat.{ℕ, _-_, _≤_, _<_}
 use mathlib.Core.Path.{_≡_, refl, sym, ap, _∙_}
-use mathlib.Core.Bool.{true}
+use mathlib.Core.Bool.{Bool, true, false, _&&_, _||_}
+use mathlib.Core.List.{List}
 use native.Mathlib.Nat.{le-antisymm}
 use native.Mathlib.Numerals.{add-one}
 use native.Mathlib.Omega.{arith}
-use lib.ListN.{length}
-use borrow.Author.Tests.{not-true, not-false}
+use lib.ListN.{length, getD}
+use lib.Dec.{leb, eqb, le→leb}
 use borrow.Author.Needs.{needs}
-use Rattle.bools.specs.Every.{every, every-false}
+use Rattle.bools.specs.Tests.{true-is, join}
+use Rattle.bools.specs.Every.{every}
+use Rattle.grouping.specs.Grouping.{keptByte}
+use Rattle.rules.specs.declared.Chip.{Chip}
+use Rattle.rules.specs.declared.Place.the-variants.{Exception}
+use Rattle.rules.specs.Chip.{flagCount, exists, hasByte}
 use Rattle.rules.specs.Sound.{byteSound}
+use Rattle.rules.specs.Laws.{is-line, line-stands}
 use Rattle.soundness.proofs.bytes.bytes_sound.Statement.{statement}
 use Rattle.soundness.proofs.bytes.bytes_sound.Tie as tie
 
+abbrev kept : Chip → List ℕ → ℕ → Bool
+kept c bytes n = eqb (keptByte (c .bits) (getD bytes n 0)) (getD bytes n 0)
+
+and-true : (b : Bool) → (b && true) ≡ b
+and-true true = refl
+and-true false = refl
+
+line-byte : (c : Chip) (bytes : List ℕ) (n : ℕ) → 16 ≤ n → n < flagCount c → byteSound c bytes n ≡ kept c bytes n
+unfolding byteSound
+line-byte c bytes n low high =
+    let has : hasByte c n ≡ true = true-is (hasByte c n) (join (leb 4 n) (exists c n) (le→leb 4 n (omega arith)) (line-stands c n Exception (is-line c n low high))) in
+    ap (λ (b : Bool). kept c bytes n && (b || eqb (getD bytes n 0) 0)) has ∙ and-true (kept c bytes n)
+
 abbrev Inv-loop : tie.InvT-loop
-Inv-loop chip priority n₀ n = (n ≤ length priority) × (every (byteSound chip priority) n ≡ true)
+Inv-loop chip priority ok₀ n₀ ok n = (16 ≤ n) × (n ≤ length priority) × (ok ≡ every (byteSound chip priority) n)
 
 abbrev μ-loop : tie.MeasureT-loop
-μ-loop chip priority n₀ n = length priority - n
+μ-loop chip priority ok₀ n₀ ok n = length priority - n
+
+-- an earlier place of the function, from a later one
+abbrev begun : tie.At-loop Inv-loop μ-loop → tie.Start Inv-loop μ-loop
+begun c = c .before .before .before
+
+low-bytes-sound-requires : tie.Need-low-bytes-sound-requires Inv-loop μ-loop
+low-bytes-sound-requires c κs = c .before .pre
 
 loop-holds : tie.Need-loop-holds Inv-loop μ-loop
-unfolding every
-loop-holds c = (omega arith, refl)
+loop-holds c = (omega arith, omega (arith, c .before .before .pre), c .low-bytes-sound .ensures)
 
-shared-slice-read-byte-sound : tie.Need-shared-slice-read-byte-sound Inv-loop μ-loop
-shared-slice-read-byte-sound c = omega arith
+shared-slice-read-is-kept : tie.Need-shared-slice-read-is-kept Inv-loop μ-loop
+shared-slice-read-is-kept c = omega arith
 
-byte-sound-requires : tie.Need-byte-sound-requires Inv-loop μ-loop
-byte-sound-requires c κs = search needs
+is-kept-requires : tie.Need-is-kept-requires Inv-loop μ-loop
+is-kept-requires c κs = search needs
 
-returns : tie.Need-returns Inv-loop μ-loop
-unfolding byteSound
-returns c = let l = c .before .before .before .before in sym (every-false _ (l .loop .n) _ (rw (sym (l .before .before .pre)) (c .before .before .before .loop-test .taken)) (sym (c .before .byte-sound .ensures) ∙ not-true _ (c .if1 .taken)))
+both-requires : tie.Need-both-requires Inv-loop μ-loop
+both-requires c κs = search needs
 
 add-n : tie.Need-add-n Inv-loop μ-loop
 add-n c = omega arith
@@ -40,11 +65,18 @@ loop-less : tie.Need-loop-less Inv-loop μ-loop
 loop-less c = omega arith
 
 loop-again : tie.Need-loop-again Inv-loop μ-loop
-unfolding every byteSound
-loop-again c = (omega arith, simp (add-one, sym (c .before .byte-sound .ensures) ∙ not-false _ (c .if1 .left), c .before .before .before .before .loop .inv .1))
+unfolding every
+loop-again c =
+    let k = c .before in
+    let h = k .before .before .before in
+    let s = begun h in
+    let l = h .loop .inv in
+    (omega arith, omega arith, c .both .ensures ∙ (λ i. (k .is-kept .ensures ∙ sym (line-byte (s .args .chip) (s .args .priority .now) (h .loop .n) (l .0) (rw (sym (s .pre)) (k .before .before .loop-test .taken)))) i && l .2 i) ∙ ap (every (byteSound (s .args .chip) (s .args .priority .now))) (sym (add-one (h .loop .n))))
 
-returns-2 : tie.Need-returns-2 Inv-loop μ-loop
-returns-2 c = sym (ap (every _) (sym (le-antisymm (c .before .loop .inv .0) (c .loop-test .left) ∙ c .before .before .before .pre)) ∙ c .before .loop .inv .1)
+returns : tie.Need-returns Inv-loop μ-loop
+returns c =
+    let h = c .before in
+    h .loop .inv .2 ∙ ap (every _) (le-antisymm (h .loop .inv .1) (c .loop-test .left) ∙ begun h .pre)
 
 pub bytes-sound-spec : {M : Type 1} → statement M
 bytes-sound-spec =
@@ -52,11 +84,12 @@ bytes-sound-spec =
     (tie.spec
     Inv-loop
     μ-loop
+    low-bytes-sound-requires
     loop-holds
-    shared-slice-read-byte-sound
-    byte-sound-requires
-    returns
+    shared-slice-read-is-kept
+    is-kept-requires
+    both-requires
     add-n
     loop-less
     loop-again
-    returns-2)
+    returns)

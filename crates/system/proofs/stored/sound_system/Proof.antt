@@ -5,8 +5,8 @@ use Rattle.rules.specs.Sound.{soundSystem}
 use Rattle.system.proofs.stored.sound_system.Statement.{statement}
 use Rattle.system.proofs.stored.sound_system.Tie as tie
 
-kept-bits-requires : tie.Need-kept-bits-requires
-kept-bits-requires c κs = search needs
+kept-vtable-requires : tie.Need-kept-vtable-requires
+kept-vtable-requires c κs = search needs
 
 kept-sysctrl-requires : tie.Need-kept-sysctrl-requires
 kept-sysctrl-requires c κs = search needs
@@ -17,8 +17,8 @@ kept-cfgctrl-requires c κs = search needs
 kept-faultstat-requires : tie.Need-kept-faultstat-requires
 kept-faultstat-requires c κs = search needs
 
-kept-bits-requires-2 : tie.Need-kept-bits-requires-2
-kept-bits-requires-2 c κs = search needs
+kept-bits-requires : tie.Need-kept-bits-requires
+kept-bits-requires c κs = search needs
 
 both-requires : tie.Need-both-requires
 both-requires c κs = search needs
@@ -37,17 +37,17 @@ unfolding soundSystem
 returns c =
     let b = c .before .before .before .before .before in
     let f = b .before .before .before .before in
-    c .both4 .ensures ∙ simp (c .before .both3 .ensures, c .before .before .both2 .ensures, c .before .before .before .both .ensures, b .kept-bits2 .ensures, b .before .before .kept-faultstat .ensures, f .kept-cfgctrl .ensures, f .before .before .kept-sysctrl .ensures, f .before .before .before .before .kept-bits .ensures)
+    c .both4 .ensures ∙ simp (c .before .both3 .ensures, c .before .before .both2 .ensures, c .before .before .before .both .ensures, b .kept-bits .ensures, b .before .before .kept-faultstat .ensures, f .kept-cfgctrl .ensures, f .before .before .kept-sysctrl .ensures, f .before .before .before .before .kept-vtable .ensures)
 
 pub sound-system-spec : {M : Type 1} → statement M
 sound-system-spec =
     tie.close
     (tie.spec
-    kept-bits-requires
+    kept-vtable-requires
     kept-sysctrl-requires
     kept-cfgctrl-requires
     kept-faultstat-requires
-    kept-bits-requires-2
+    kept-bits-requires
     both-requires
     both-requires-2
     both-requires-3

@@ -1,0 +1,4 @@
+pub mod View
+pub mod Demand1
+pub mod Demand3
+pub mod Bounds

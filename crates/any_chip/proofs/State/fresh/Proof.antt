@@ -1,0 +1,14 @@
+-- The arrays by their repeats, the other parts by their own fresh values.
+use borrow.Author.Needs.{needs}
+use Rattle.any_chip.proofs.View.{fresh-state}
+use Rattle.any_chip.proofs.State.fresh.Statement.{statement}
+use Rattle.any_chip.proofs.State.fresh.Tie as tie
+
+fresh-core-requires : tie.Need-fresh-core-requires
+fresh-core-requires c κs = search needs
+
+returns : tie.Need-returns
+returns c = fresh-state (c .before .args .setup) _ (c .fresh-core .ensures)
+
+pub fresh-spec : {M : Type 1} → statement M
+fresh-spec = tie.close (tie.spec fresh-core-requires returns)

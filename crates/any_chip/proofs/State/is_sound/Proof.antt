@@ -1,0 +1,93 @@
+-- The places that are lent are the view's: where that is more than the chip's own, their number is wrong.
+use mathlib.Core.Path.{_∙_}
+use Rattle.rules.specs.Sound.{isSound}
+use Rattle.any_chip.specs.View.{firstPlaces}
+use Rattle.any_chip.specs.ViewLaws.{Sized}
+use Rattle.any_chip.proofs.View.{Within, within, front}
+use borrow.Author.Needs.{needs}
+use Rattle.any_chip.proofs.State.is_sound.Statement.{statement}
+use Rattle.any_chip.proofs.State.is_sound.Tie as tie
+
+-- earlier places of the function, from later ones
+abbrev reached : tie.After-chip → tie.After-reach
+reached c = c .before .before .before .before .before .before .before .before
+
+abbrev begun : tie.After-chip → tie.Start
+begun c = reached c .before .before
+
+sized : (c : tie.Start) → Sized (c .args .self)
+sized c = record { pending = search needs; active = search needs; enabled = search needs; level = search needs; priority = search needs; nest = search needs }
+
+lent : (c : tie.After-chip) → Within (reached c .reach .result) (begun c .args .self)
+lent c = within (begun c .args .self) (sized (begun c)) (reached c .reach .result) (reached c .reach .ensures)
+
+reach-requires : tie.Need-reach-requires
+reach-requires c κs = search needs
+
+chip-requires : tie.Need-chip-requires
+chip-requires c κs = search needs
+
+array-share-prefix-pending : tie.Need-array-share-prefix-pending
+array-share-prefix-pending c = lent c .pending
+
+slice-aggregate-is-sound : tie.Need-slice-aggregate-is-sound
+slice-aggregate-is-sound c = front _ _ (lent (c .before) .pending)
+
+array-share-prefix-active : tie.Need-array-share-prefix-active
+array-share-prefix-active c = lent (c .before) .active
+
+slice-aggregate-is-sound-2 : tie.Need-slice-aggregate-is-sound-2
+slice-aggregate-is-sound-2 c = front _ _ (lent (c .before .before) .active)
+
+array-share-prefix-enabled : tie.Need-array-share-prefix-enabled
+array-share-prefix-enabled c = lent (c .before .before) .enabled
+
+slice-aggregate-is-sound-3 : tie.Need-slice-aggregate-is-sound-3
+slice-aggregate-is-sound-3 c = front _ _ (lent (c .before .before .before) .enabled)
+
+array-share-prefix-level : tie.Need-array-share-prefix-level
+array-share-prefix-level c = lent (c .before .before .before) .level
+
+slice-aggregate-is-sound-4 : tie.Need-slice-aggregate-is-sound-4
+slice-aggregate-is-sound-4 c = front _ _ (lent (c .before .before .before .before) .level)
+
+array-share-prefix-priority : tie.Need-array-share-prefix-priority
+array-share-prefix-priority c = lent (c .before .before .before .before) .priority
+
+slice-aggregate-is-sound-5 : tie.Need-slice-aggregate-is-sound-5
+slice-aggregate-is-sound-5 c = front _ _ (lent (c .before .before .before .before .before) .priority)
+
+array-share-prefix-nest : tie.Need-array-share-prefix-nest
+array-share-prefix-nest c = lent (c .before .before .before .before .before) .nest
+
+slice-aggregate-is-sound-6 : tie.Need-slice-aggregate-is-sound-6
+slice-aggregate-is-sound-6 c = front _ _ (lent (c .before .before .before .before .before .before) .nest)
+
+is-sound-requires : tie.Need-is-sound-requires
+is-sound-requires c κs = search needs
+
+returns : tie.Need-returns
+returns c =
+    let k = c .before .before .before .before .before .before .before in
+    c .is-sound .ensures ∙ (λ i. isSound (k .chip .ensures i) (firstPlaces (reached k .reach .ensures i) (begun k .args .self)))
+
+pub is-sound-spec : {M : Type 1} → statement M
+is-sound-spec =
+    tie.close
+    (tie.spec
+    reach-requires
+    chip-requires
+    array-share-prefix-pending
+    slice-aggregate-is-sound
+    array-share-prefix-active
+    slice-aggregate-is-sound-2
+    array-share-prefix-enabled
+    slice-aggregate-is-sound-3
+    array-share-prefix-level
+    slice-aggregate-is-sound-4
+    array-share-prefix-priority
+    slice-aggregate-is-sound-5
+    array-share-prefix-nest
+    slice-aggregate-is-sound-6
+    is-sound-requires
+    returns)

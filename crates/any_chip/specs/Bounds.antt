@@ -1,0 +1,23 @@
+-- How deep exceptions nest in what runs: `demand3` has the bounds of the rules' answers; here they are said of the replies.
+use Prim.Native.Nat.{ℕ}
+use mathlib.Core.List.{List, map}
+use Rattle.script.specs.declared.Event.{Event}
+use Rattle.rules.specs.declared.Part.the-variants.{Lines55, Lines240}
+use Rattle.rules.specs.declared.Setup.{Setup}
+use Rattle.rules.specs.Chip.{chipOf}
+use Rattle.rules.specs.Model.{fresh}
+use Rattle.demand3.specs.Bounds.{Bounds}
+use Rattle.any_chip.specs.declared.State.{State}
+use Rattle.any_chip.specs.declared.Reply.{Reply}
+use Rattle.any_chip.specs.View.{model, state}
+use Rattle.any_chip.specs.Demand3.{answer, Called}
+
+abbrev pub Bounded : Setup → ℕ → Type 0
+Bounded setup bare =
+    (es : List Event) (rs : List Reply) (t : State) → Called (state setup (fresh (chipOf setup))) es rs t → Bounds (chipOf setup) bare es (map answer rs) (model t)
+
+pub record CodeBounded : Type 0 where
+  -- "at most 63 are nested"
+  pub lines55 : Bounded (record { part = Lines55 }) 63
+  -- document 02, E4: "In demand 3 the bare bound becomes 248 for this chip."
+  pub lines240 : Bounded (record { part = Lines240 }) 248

@@ -1,0 +1,5 @@
+pub mod View
+pub mod ViewLaws
+pub mod Demand1
+pub mod Demand3
+pub mod Bounds

@@ -1,0 +1,20 @@
+// Worked cases of document 02, E4, run by call on the state of any chip, a labelled line for each: what must be printed was worked out from
+// documents 01 and 02. A case is a row of numbers, handed to a function that makes its state.
+mod nesting;
+mod registers;
+mod same;
+mod show;
+mod soundness;
+
+use rules::Part;
+
+fn main() {
+    registers::lines();
+    registers::entries();
+    registers::kept_bits();
+    registers::triggers();
+    soundness::cases(Part::Lines55);
+    soundness::cases(Part::Lines240);
+    nesting::nest(Part::Lines240);
+    nesting::nest(Part::Lines55);
+}

@@ -1,0 +1,56 @@
+// As `timing`, on the state of the chip that the words after its name name: the sum of all refusals and values of 100 runs of the script on
+// standard input, every event a public call. A program of its own: in one program with both, the code that they share is no longer compiled
+// for the 55 lines of `model`, whose calls then take half as long again.
+use any_chip::State;
+use libc::STDIN_FILENO;
+use libc::STDOUT_FILENO;
+use rules::Setup;
+use script::ReadEvent;
+
+const TIMES: u64 = 100;
+
+fn plus(a: u64, b: u32) -> u64 {
+    std::num::wrapping_add_u64(a, b as u64)
+}
+
+// One pass over the script.
+fn run_once(script: &[u8], setup: Setup) -> u64 {
+    let mut state = State::fresh(setup);
+    let mut sum = 0;
+    let mut at = 0;
+    while at < script.len() {
+        match script::read_event(script, at) {
+            ReadEvent::Refused(_) => {
+                return sum;
+            }
+            ReadEvent::Found(event, next) => {
+                let reply = state.step(event);
+                let left = reply.state;
+                state = left;
+                at = next;
+                sum = plus(plus(sum, reply.refusal), reply.value);
+            }
+        }
+    }
+    sum
+}
+
+fn run_often(script: &[u8], setup: Setup) -> u64 {
+    let mut sum = 0;
+    let mut i: u64 = 0;
+    while i < TIMES {
+        sum = std::num::wrapping_add_u64(sum, run_once(script, setup));
+        i += 1;
+    }
+    sum
+}
+
+fn main() {
+    let mut space = [0u8; 65537];
+    let n = io::read_full(STDIN_FILENO, &mut space);
+    let words = setup_words::named();
+    let setup = words.setup;
+    let sum = run_often(&space[..n], setup);
+    io::print_decimal(STDOUT_FILENO, sum);
+    io::write_all(STDOUT_FILENO, b"\n");
+}
