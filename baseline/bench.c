@@ -287,7 +287,7 @@ static Answer return_event(Model *m, uint32_t v) {
     int n = m->nest[--m->depth];
     m->nest[m->depth] = 0;
     m->active[n] = 0;
-    m->faultmask = 0;
+    if (n != 2) m->faultmask = 0;
     if (v != 0xFFFFFFF1) m->spsel = v == 0xFFFFFFFD;
     if (n >= 16 && m->level[n]) m->pending[n] = 1;
     return done(top(m));

@@ -22,7 +22,7 @@ answered : (setup : Setup) (a : Answer) → Sound (chipOf setup) (a .next) → a
 answered setup a h =
     ap (λ (m : Model). record { refusal = a .refusal; value = a .value; vector = a .vector; link = a .link; next = m }) (view-laws .viewed setup (a .next) h)
 
-called : {s t : State} {es : List Event} {rs : List Reply} (setup : Setup) → s .setup ≡ setup → Sound (chipOf setup) (model s) → Called s es rs t → Calls (chipOf setup) (model s) es (map answer rs) (model t)
+pub called : {s t : State} {es : List Event} {rs : List Reply} (setup : Setup) → s .setup ≡ setup → Sound (chipOf setup) (model s) → Called s es rs t → Calls (chipOf setup) (model s) es (map answer rs) (model t)
 called setup q h stop = claim.stop
 called {s = s} setup q h (call {e = e} {r = r} k more) =
     let replied : r ≡ reply setup (stepOf (chipOf setup) (model s) e) = k ∙ ap (λ (u : Setup). reply u (stepOf (chipOf u) (model s) e)) q in

@@ -3,3 +3,4 @@ pub mod ViewLaws
 pub mod Demand1
 pub mod Demand3
 pub mod Bounds
+pub mod ComesAndGoes

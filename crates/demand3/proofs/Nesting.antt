@@ -50,7 +50,7 @@ module _ {c : Chip} {m : Model} (h : Sound c m) where
     pending-exists : T (exists c n)
     pending-exists = h .pending .only n pends
 
-    idle : T (on (m .active) n) → ⊥
+    pub idle : T (on (m .active) n) → ⊥
     idle t = clashℤ below (execution-below n t)
 
     pushed : Nested (set (m .active) n true) (n ∷ stack m)
@@ -150,7 +150,7 @@ module _ {c : Chip} {m : Model} (h : Sound c m) where
   pub returned-popped : (v : ℕ) → 0 < m .core .depth → Popped (returned v m)
   unfolding returned repended returnedMasks
   returned-popped v l =
-      by-cases (λ t. Popped (withMasks (returnedMasks v (m .core .masks)) (withDepth (pred (m .core .depth)) (withNest (set (m .nest) (pred (m .core .depth)) 0) (withActive (set (m .active) (top (stack m)) false) t)))))
+      by-cases (λ t. Popped (withMasks (returnedMasks (top (stack m)) v (m .core .masks)) (withDepth (pred (m .core .depth)) (withNest (set (m .nest) (pred (m .core .depth)) 0) (withActive (set (m .active) (top (stack m)) false) t)))))
       (on (m .level) (top (stack m)))
-      (λ t. popped (returnedMasks v (m .core .masks)) (pend (top (stack m)) m) l (h .core .basepri) (pend-quiet (stay h) (top (stack m)) (line-stands c (top (stack m)) Exception (h .level .only (top (stack m)) t)) .sound) (record { priority = refl; group = refl }))
-      (λ _. popped (returnedMasks v (m .core .masks)) m l (h .core .basepri) h (record { priority = refl; group = refl }))
+      (λ t. popped (returnedMasks (top (stack m)) v (m .core .masks)) (pend (top (stack m)) m) l (h .core .basepri) (pend-quiet (stay h) (top (stack m)) (line-stands c (top (stack m)) Exception (h .level .only (top (stack m)) t)) .sound) (record { priority = refl; group = refl }))
+      (λ _. popped (returnedMasks (top (stack m)) v (m .core .masks)) m l (h .core .basepri) h (record { priority = refl; group = refl }))

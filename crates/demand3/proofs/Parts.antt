@@ -115,7 +115,7 @@ pub down-length : (l : List ℕ) (d : ℕ) → length (down l d) ≡ d
 down-length l zero = refl
 down-length l (suc d) = ap suc (down-length l d)
 
-down-set : (l : List ℕ) (i v d : ℕ) → d ≤ i → down (set l i v) d ≡ down l d
+pub down-set : (l : List ℕ) (i v d : ℕ) → d ≤ i → down (set l i v) d ≡ down l d
 down-set l i v zero h = refl
 down-set l i v (suc d) h = ap₂ (λ (x : ℕ) (xs : List ℕ). x ∷ xs) (getD-set-other l i d v 0 (omega arith)) (down-set l i v d (omega arith))
 

@@ -2,6 +2,7 @@
 ghost use mathlib.Core.Path.{_≡_};
 ghost use Rattle.rules.specs.Events.{withPrimask, withBasepri, faultmaskWritten, basepriRaised, controlWritten, specialWritten};
 ghost use Rattle.rules.specs.Nesting.{withSpsel, returnedMasks};
+use bools::both;
 use rules::Chip;
 use rules::Masks;
 
@@ -84,11 +85,11 @@ pub fn with_spsel(mut masks: Masks, b: bool) -> Masks
     masks
 }
 
-// What a return with the link value v leaves.
-pub fn returned_masks(mut masks: Masks, v: u32) -> Masks
-    ensures { λ r. ⌜ r ≡ returnedMasks v masks ⌝ }
+// The masks after a return with the link value v: one from NMI, exception 2, leaves FAULTMASK.
+pub fn returned_masks(mut masks: Masks, from: usize, v: u32) -> Masks
+    ensures { λ r. ⌜ r ≡ returnedMasks from v masks ⌝ }
 {
-    masks.faultmask = false;
+    masks.faultmask = both(from == 2, masks.faultmask);
     if v == 0xfffffff1 {
         return masks;
     }

@@ -83,7 +83,7 @@ specialCore c e which v k = putMasks (specialWritten c which v (isNegative e) (e
 -- what a return from n leaves: the nest and the active flags of m, the rest of x
 abbrev popped : ℕ → ℕ → Core → Model → Model → Model
 popped v n k m x =
-    withMasks (returnedMasks v (k .masks)) (withDepth (pred (k .depth)) (withNest (set (m .nest) (pred (k .depth)) 0) (withActive (set (m .active) n false) x)))
+    withMasks (returnedMasks n v (k .masks)) (withDepth (pred (k .depth)) (withNest (set (m .nest) (pred (k .depth)) 0) (withActive (set (m .active) n false) x)))
 
 module _ {c d : Chip} (g : Grown c d) {m t : Model} (h : Sound c m) (k : Sound d t) (a : Alike m t) where
   -- ---- the lists, with their lengths
@@ -232,7 +232,7 @@ module _ {c d : Chip} (g : Grown c d) {m t : Model} (h : Sound c m) (k : Sound d
   popped-alike : (v n : ℕ) → n < flagCount c → Alike (popped v n (m .core) m (repended n m)) (popped v n (m .core) t (repended n t))
   popped-alike v n l =
       put-core (put-nest (put-active (repended-alike n l) (same-clear false n (a .active))) (same-clear 0 (pred (m .core .depth)) (a .nest)))
-      (λ x. putMasks (returnedMasks v (m .core .masks)) (putDepth (pred (m .core .depth)) x))
+      (λ x. putMasks (returnedMasks n v (m .core .masks)) (putDepth (pred (m .core .depth)) x))
 
   returned-alike : (v : ℕ) → 0 < m .core .depth → Alike (returned v m) (returned v t)
   unfolding returned

@@ -43,7 +43,7 @@ fn leave(
     store_byte(nest, depth, 0);
     core.depth = depth;
     let masks = core.masks;
-    let left = masks::returned_masks(masks, value);
+    let left = masks::returned_masks(masks, top, value);
     core.masks = left;
     core
 }

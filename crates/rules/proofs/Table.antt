@@ -1,6 +1,6 @@
--- Both tables hold by computation: each row's calls run to what is expected of it.
+-- The tables hold by computation: each row's calls run to what is expected of it.
 use mathlib.Core.Path.{refl}
-use Rattle.rules.specs.Table.{Holds, starred, further, currents, printed}
+use Rattle.rules.specs.Table.{Holds, starred, further, added, currents, printed}
 use Rattle.bools.specs.Every as every
 use Rattle.bits.specs.Words as bits
 use Rattle.flag_words.specs.Flags as flags
@@ -23,13 +23,17 @@ use Rattle.rules.specs.Registers as registers
 use Rattle.rules.specs.Access as access
 use Rattle.rules.specs.Step as step
 
-both-hold : Holds starred × Holds further
-unfolding starred further currents printed bits.withBit bits.without flags.wordOf flags.putFlag flags.putFlags flags.someFlag priority.leastActive priority.executionPriority priority.best priority.bestPending timer.tickOf timer.writeControl timer.writeReload timer.writeCurrent timer.soundTimer mpu.freshMpu mpu.mpuRegisterAt mpu.keptBase mpu.keptAttributes mpu.withBase mpu.writeBase mpu.withAttributes mpu.writeMpu verdicts.onPrivateBus verdicts.defaultDecides verdicts.agrees verdicts.eighthOn verdicts.regionMatches verdicts.rightsByAp verdicts.rightsOf verdicts.allows verdicts.background verdicts.regionAllows verdicts.regionsAllow verdicts.systemFetch verdicts.permits verdicts.faultOf verdicts.verdict guard.regionKept guard.soundMpu frames.windowFits frames.holdsFrame frames.padded frames.frameAt frames.stackFits frames.refusalOf frames.stacked frames.frameBytes frames.written frames.stackedWindow frames.wordAt script.accessNumber model.fresh priorities.execution every.every sound.flagSound sound.byteSound sound.nestedSound sound.unusedSound sound.soundNest sound.soundFlags sound.soundSystem sound.isSized sound.isSound events.levelled events.lineCall events.tickCall events.escalates events.raised events.faultException events.faultStatus events.faultAt events.svcAt events.faultmaskWritten events.controlWritten events.specialWritten events.specialAt nesting.entered nesting.entryAt nesting.linkFits nesting.returnedMasks nesting.repended nesting.returned nesting.returnCall addresses.blockRegister addresses.registerAt addresses.widthRefusal reads.timerValue reads.timerRead reads.bankValue reads.intctrlValue reads.systemValue reads.valueOf reads.afterRead writes.timerWritten writes.clearable writes.bankWritten writes.withByte writes.setOrClear writes.intctrlWritten writes.apintWritten writes.systemWritten writes.wordWritten writes.byteWritten registers.accessRefusal registers.laneOf registers.readCall registers.written registers.writeCall access.purposeOf access.fitsAccess access.accessAt step.guarded
-both-hold = ((refl, (refl, (refl, (refl, (refl, (refl, (refl, (refl, (refl, (refl, (refl, (refl, (refl, tt))))))))))))), (refl, (refl, (refl, (refl, (refl, (refl, (refl, (refl, (refl, (refl, (refl, (refl, (refl, (refl, (refl, (refl, (refl, (refl, (refl, (refl, (refl, (refl, (refl, (refl, (refl, (refl, (refl, (refl, tt)))))))))))))))))))))))))))))
+all-hold : Holds starred × Holds further × Holds added
+unfolding starred further added currents printed bits.withBit bits.without flags.wordOf flags.putFlag flags.putFlags flags.someFlag priority.leastActive priority.executionPriority priority.best priority.bestPending timer.tickOf timer.writeControl timer.writeReload timer.writeCurrent timer.soundTimer mpu.freshMpu mpu.mpuRegisterAt mpu.keptBase mpu.keptAttributes mpu.withBase mpu.writeBase mpu.withAttributes mpu.writeMpu verdicts.onPrivateBus verdicts.defaultDecides verdicts.agrees verdicts.eighthOn verdicts.regionMatches verdicts.rightsByAp verdicts.rightsOf verdicts.allows verdicts.background verdicts.regionAllows verdicts.regionsAllow verdicts.systemFetch verdicts.permits verdicts.faultOf verdicts.verdict guard.regionKept guard.soundMpu frames.windowFits frames.holdsFrame frames.padded frames.frameAt frames.stackFits frames.refusalOf frames.stacked frames.frameBytes frames.written frames.stackedWindow frames.wordAt script.accessNumber model.fresh priorities.execution every.every sound.flagSound sound.byteSound sound.nestedSound sound.unusedSound sound.soundNest sound.soundFlags sound.soundSystem sound.isSized sound.isSound events.levelled events.lineCall events.tickCall events.escalates events.raised events.faultException events.faultStatus events.faultAt events.svcAt events.faultmaskWritten events.controlWritten events.specialWritten events.specialAt nesting.entered nesting.entryAt nesting.linkFits nesting.returnedMasks nesting.repended nesting.returned nesting.returnCall addresses.blockRegister addresses.registerAt addresses.widthRefusal reads.timerValue reads.timerRead reads.bankValue reads.intctrlValue reads.systemValue reads.valueOf reads.afterRead writes.timerWritten writes.clearable writes.bankWritten writes.withByte writes.setOrClear writes.intctrlWritten writes.apintWritten writes.systemWritten writes.wordWritten writes.byteWritten registers.accessRefusal registers.laneOf registers.readCall registers.written registers.writeCall access.purposeOf access.fitsAccess access.accessAt step.guarded
+all-hold = ((refl, (refl, (refl, (refl, (refl, (refl, (refl, (refl, (refl, (refl, (refl, (refl, (refl, tt))))))))))))), (refl, (refl, (refl, (refl, (refl, (refl, (refl, (refl, (refl, (refl, (refl, (refl, (refl, (refl, (refl, (refl, (refl, (refl, (refl, (refl, (refl, (refl, (refl, (refl, (refl, (refl, (refl, (refl, tt)))))))))))))))))))))))))))), (refl, (refl, (refl, (refl, (refl, (refl, tt)))))))
 
 -- the starred bench cases of document 01, all of them
 pub starred-holds : Holds starred
-starred-holds = both-hold .0
+starred-holds = all-hold .0
 
 pub further-holds : Holds further
-further-holds = both-hold .1
+further-holds = all-hold .1
+
+-- those of document 02
+pub added-holds : Holds added
+added-holds = all-hold .2
