@@ -25,7 +25,7 @@ use Rattle.rules.specs.Sound.{Sound}
 use Rattle.rules.specs.Nesting.{chosen, linkOf, entered, enter, entryAt, linkFits, returnedMasks, repended, returned, returnCall}
 use Rattle.rules.specs.Step.{stepOf}
 use Rattle.demand3.specs.Demand3.{call}
-use Rattle.demand3.specs.ComesAndGoes.{cameAndWent, Restored, ComesAndGoes}
+use Rattle.demand3.specs.ComesAndGoes.{cameAndWent, ComesAndGoes}
 use Rattle.demand3.proofs.Check.{step-sound}
 use Rattle.demand3.proofs.Parts.{down-set}
 use Rattle.demand3.proofs.Nesting.{idle, room, chosen-able, sound-entered}
