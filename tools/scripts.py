@@ -1,7 +1,7 @@
 """Random scripts of the events of documents 01 and 02, the same for the same seed: mostly sensible arguments, some out of range.
 
-A script is made for a chip of 55 or 240 lines and may be run on either. Those for 55 lines that keep no proviso and have no deep nest
-stay what they are, so that measurements can be compared.
+A script is made for a chip of 55 or 240 lines and may be run on either. Those for 55 lines that keep no proviso, have no deep nest and
+are not about the memory guard stay what they are, so that measurements can be compared.
 """
 import random
 
@@ -96,6 +96,32 @@ def nest(r, lines):
         yield from ([6, 0, 0], [9], [4], [9])  # where MemManage is active, its fault goes to HardFault
 
 
+def access(r):
+    kind, block = r.choice([0, 1, 1, 2]), r.choice([0x20000000, 0x20000000, 0x20000000, 0x40000000, 0xA0000000, 0xE0000000])
+    return [11, kind, 2 if kind == 2 else r.choice([1, 2, 4]), block + r.randrange(0, 0x800, 4)]
+
+
+def region(r, n):
+    """Region n, over the same few addresses as the others: any AP, some with eighths off or bit 28 set, few disabled."""
+    size, off = r.choice([5, 7, 8, 9, 10, 31]), r.choice([0, 0, r.randrange(256)])
+    yield [2, 4, 0xE000ED9C, 0x20000000 + r.randrange(0, 0x800, 0x20) | 0x10 | n]
+    yield [2, 4, 0xE000EDA0, r.choice([0, 0, 1]) << 28 | r.randrange(8) << 24 | off << 8 | size << 1 | r.choice([1, 1, 1, 0])]
+
+
+def guarded(r):
+    """Verdicts where regions decide, over and over: in thread mode by the privileged, then by the others, then in a handler or NMI."""
+    while True:
+        for n in r.sample(range(8), r.choice([1, 2, 8])):
+            yield from region(r, n)
+        yield [2, 4, 0xE000ED94, r.choice([1, 1, 3, 5, 7, 0])]
+        yield from (access(r) for _ in range(8))
+        yield [8, 4, 1]
+        yield from (access(r) for _ in range(8))
+        yield from (r.choice([[7], [7], [4]]), [9], [8, 4, 0])
+        yield from (access(r) for _ in range(4))
+        yield [10, 0xFFFFFFF9]
+
+
 def is_old(event):
     """Whether E4's proviso lets the event stand in an old script."""
     if event[0] == 3:
@@ -118,10 +144,10 @@ def events(r, lines, deep):
             yield shown(*one[1:])
 
 
-def script(seed, length, lines=55, old=False, deep=False):
-    """At most `length` bytes of whole events; only those of an old script, or with a deep nest first, if so asked."""
-    out = bytearray()
-    for one in events(random.Random(seed), lines, deep):
+def script(seed, length, lines=55, old=False, deep=False, guard=False):
+    """At most `length` bytes of whole events; only those of an old script, with a deep nest first, or about the guard, if so asked."""
+    out, r = bytearray(), random.Random(seed)
+    for one in guarded(r) if guard else events(r, lines, deep):
         if old and not is_old(one):
             continue
         more = b"".join(number(n) for n in one)

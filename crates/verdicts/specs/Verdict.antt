@@ -1,14 +1,13 @@
--- Access verdicts: document 01, "Access verdicts", sentence by sentence.
+-- Access verdicts: document 01, "Access verdicts", sentence by sentence; the rights by document 02, E3.
 use Prim.Native.Nat.{ℕ, zero, suc, _+_, _-_, _/_, _%_, _^_}
-use mathlib.Core.List.{List, [], _∷_}
-use mathlib.Core.Bool.{Bool, true, false, cond}
+use mathlib.Core.List.{List}
+use mathlib.Core.Bool.{Bool, true, false, not, cond, _&&_}
 use lib.ListN.{getD}
 use lib.Dec.{eqb, ltb, leb}
 use Rattle.mpu.specs.declared.Mpu.{Mpu}
 use Rattle.verdicts.specs.declared.Access.{Access}
 use Rattle.verdicts.specs.declared.Access.the-variants.{Read, Write, Fetch}
 use Rattle.verdicts.specs.declared.Rights.{Rights}
-use Rattle.verdicts.specs.declared.Row.{Row}
 
 -- "Default map: all may read and write; no fetch from 0x40000000 to 0x5FFFFFFF nor from 0xA0000000 up".
 unfoldable pub defaultAllows : Access → ℕ → Bool
@@ -55,40 +54,32 @@ regionMatches base attributes address =
     (cond (ltb (sizeOf attributes) 4) false
     (cond (agrees (sizeOf attributes) base address) (eighthOn attributes address) false))
 
--- "none", "R" and "RW".
-abbrev pub NONE : Rights
-NONE = record { read = false; write = false }
+-- Document 02, E3: "Work the rights out from the three AP bits by a formula that can be read aloud." These are the cases of the
+-- manual's CheckPermission(), which leaves AP 4 unpredictable; that they are document 01's rows is a law (`Rights`).
 
-abbrev pub R : Rights
-R = record { read = true; write = false }
+-- AP's low bits, 25:24 of the attributes.
+abbrev pub apLow : ℕ → ℕ
+apLow attributes = attributes / 2 ^ 24 % 2 ^ 2
 
-abbrev pub RW : Rights
-RW = record { read = true; write = true }
+-- AP's high bit, 26.
+abbrev pub apReadOnly : ℕ → Bool
+apReadOnly attributes = eqb (attributes / 2 ^ 26 % 2) 1
 
--- "privileged/other"
-abbrev pub row : Rights → Rights → Row
-row privileged other = record { 0 = privileged; 1 = other }
+-- The privileged may read where low is not 0, the others where low is 2 or 3.
+unfoldable pub mayRead : ℕ → Bool → Bool
+mayRead low privileged = cond privileged (not (eqb low 0)) (leb 2 low)
 
--- "Rights by AP (26:24), privileged/other, in order 0 to 7: none/none, RW/none, RW/R, RW/RW, none/none (house rule),
--- R/none, R/R, R/R." The cases of the manual's CheckPermission(), which leaves AP 4 unpredictable.
-unfoldable pub rightsByAp : List Row
-rightsByAp =
-    row NONE NONE
-    ∷ row RW NONE
-    ∷ row RW R
-    ∷ row RW RW
-    ∷ row NONE NONE
-    ∷ row R NONE
-    ∷ row R R
-    ∷ row R R
-    ∷ []
+-- Unless AP is read only, the privileged may write where low is not 0, the others where low is 3.
+unfoldable pub mayWrite : ℕ → Bool → Bool → Bool
+mayWrite low readOnly privileged = not readOnly && cond privileged (not (eqb low 0)) (eqb low 3)
 
 -- The rights that a region with these attributes gives.
 unfoldable pub rightsOf : ℕ → Bool → Rights
 rightsOf attributes privileged =
-    cond privileged
-    (getD rightsByAp (attributes / 2 ^ 24 % 2 ^ 3) (row NONE NONE) .0)
-    (getD rightsByAp (attributes / 2 ^ 24 % 2 ^ 3) (row NONE NONE) .1)
+    record {
+      read = mayRead (apLow attributes) privileged;
+      write = mayWrite (apLow attributes) (apReadOnly attributes) privileged;
+    }
 
 -- What a region with these attributes allows: the manual's CheckPermission(). "A fetch needs the right to read and bit 28 clear".
 unfoldable pub allows : ℕ → Access → Bool → Bool
