@@ -10,9 +10,12 @@
 
 enum { FLAGS = 256, NEST = 248 }; /* of the chip with 240 lines; the other uses the first places */
 
+typedef struct { int lines, bits; } Setup; /* which chip: its lines, and how many of the top bits of a priority byte it keeps */
+
 typedef struct {
     uint8_t pending[FLAGS], active[FLAGS], enabled[FLAGS], level[FLAGS], priority[FLAGS], nest[NEST];
     int lines, depth;
+    uint32_t kept; /* the bits of a priority byte and of BASEPRI that the chip keeps */
     uint32_t group, basepri, primask, faultmask, npriv, spsel;
     uint32_t st_control, st_reload, st_current, st_count;
     uint32_t mpu_control, mpu_region, mpu_base[8], mpu_attributes[8];
@@ -24,7 +27,12 @@ typedef struct { uint32_t refusal, value; } Answer;
 static Answer refuse(uint32_t n) { return (Answer){n, 0}; }
 static Answer done(uint32_t v) { return (Answer){0, v}; }
 
-static void fresh(Model *m, int lines) { memset(m, 0, sizeof *m); m->lines = lines; m->cfgctrl = 0x200; }
+static void fresh(Model *m, Setup setup) {
+    memset(m, 0, sizeof *m);
+    m->lines = setup.lines;
+    m->kept = 0xFF & ~(0xFFu >> setup.bits);
+    m->cfgctrl = 0x200;
+}
 
 static int flags(const Model *m) { return 16 + m->lines; }
 
@@ -32,6 +40,7 @@ static uint32_t vtable_mask(const Model *m) { return m->lines == 240 ? 0x3FFFFC0
 
 static int full(const Model *m, int n) { return n == 2 ? -2 : n == 3 ? -1 : m->priority[n]; }
 
+/* Bits p:0 are cleared whatever the chip keeps, so bit 0 is never part of a group number, with eight bits too. */
 static int grouped(const Model *m, int priority) { return priority < 0 ? priority : priority & ~((2 << m->group) - 1); }
 
 static int execution(const Model *m) {
@@ -146,7 +155,7 @@ static uint32_t read_register(Model *m, Register r, int first) {
     return 0;
 }
 
-static void write_byte(Model *m, int n, uint32_t v) { if (has_byte(m->lines, n)) m->priority[n] = v & 0xE0; }
+static void write_byte(Model *m, int n, uint32_t v) { if (has_byte(m->lines, n)) m->priority[n] = (uint8_t)(v & m->kept); }
 
 static void write_register(Model *m, Register r, int first, uint32_t v) {
     switch (r) {
@@ -259,7 +268,7 @@ static Answer svc_event(Model *m) { return execution(m) < 0 ? refuse(10) : raise
 static Answer special_event(Model *m, uint32_t which, uint32_t v) {
     if (which > 4) return refuse(6);
     if (!privileged(m)) return done(0);
-    uint32_t b = v & 0xE0;
+    uint32_t b = v & m->kept; /* both tests of BASEPRI_MAX are made on what is left */
     switch (which) {
     case 0: m->primask = v & 1; break;
     case 1: if (!(v & 1) || execution(m) >= 0) m->faultmask = v & 1; break;
@@ -375,7 +384,7 @@ INLINE int sound_numbers(const Model *m, int lines) {
         if ((m->pending[n] || m->active[n]) && !is_exception(lines, n)) return 0;
         if (m->enabled[n] && !(n >= 4 && n <= 6) && !is_line(n)) return 0;
         if (m->level[n] && !is_line(n)) return 0;
-        if (m->priority[n] & (has_byte(lines, n) ? 0x1F : 0xFF)) return 0;
+        if (m->priority[n] & ~(has_byte(lines, n) ? m->kept : 0)) return 0;
     }
     return 1;
 }
@@ -397,7 +406,7 @@ static int sound_lists(const Model *m) {
 }
 
 static int sound(const Model *m) {
-    if (!sound_lists(m) || m->group > 7 || m->basepri & ~0xE0u) return 0;
+    if (!sound_lists(m) || m->group > 7 || m->basepri & ~m->kept) return 0;
     if (m->st_control > 7 || m->st_reload > 0xFFFFFF || m->st_current > 0xFFFFFF) return 0;
     if (m->mpu_control > 7 || m->mpu_region > 7) return 0;
     for (int i = 0; i < 8; i++) if (m->mpu_base[i] & 31 || m->mpu_attributes[i] & ~0x173FFF3Fu) return 0;
@@ -428,10 +437,12 @@ static void put_line(uint32_t number, Answer r, const Model *m) {
     if (out_length > sizeof out - 100) { fwrite(out, 1, out_length, stdout); out_length = 0; }
 }
 
-/* Runs the script once; the refusal that breaks it, with the place, or 0. */
-static uint32_t run(int lines, const uint8_t *s, size_t n, int print, uint64_t *sum, size_t *bad) {
+/* Runs the script once; the refusal that breaks it, with the place, or 0. The setup is tested before anything of the script. */
+static uint32_t run(Setup setup, const uint8_t *s, size_t n, int print, uint64_t *sum, size_t *bad) {
     Model m;
-    fresh(&m, lines);
+    if (setup.bits < 3 || setup.bits > 8) { *bad = 0; return 17; }
+    if (n > 65536) { *bad = 65536; return 15; }
+    fresh(&m, setup);
     size_t at = 0;
     for (uint32_t k = 1; at < n; k++) {
         uint32_t kind, a[3] = {0, 0, 0};
@@ -446,35 +457,49 @@ static uint32_t run(int lines, const uint8_t *s, size_t n, int print, uint64_t *
     return 0;
 }
 
+/* The number that the text is in decimal digits, -1 where it is none. Held at 9: a greater one is refused all the same. */
+static int decimal(const char *text) {
+    int n = 0;
+    if (!*text || strlen(text) > 64) return -1;
+    for (; *text; text++) {
+        if (*text < '0' || *text > '9') return -1;
+        n = 10 * n + (*text - '0');
+        if (n > 9) n = 9;
+    }
+    return n;
+}
+
 /* What the words after the program's name say; 0 where one is unknown or given twice, or its value is missing or wrong. */
-static int words(int argc, char **argv, int *lines, long *times) {
+static int words(int argc, char **argv, Setup *setup, long *times) {
+    *setup = (Setup){0, -1}; /* neither is given yet; 0 bits may be given */
     for (int i = 1; i < argc; i += 2) {
-        const char *value = i + 1 < argc ? argv[i + 1] : "";
-        if (!strcmp(argv[i], "--lines") && !*lines && (!strcmp(value, "55") || !strcmp(value, "240"))) *lines = atoi(value);
-        else if (!strcmp(argv[i], "--times") && !*times && atol(value) > 0) *times = atol(value);
+        const char *word = argv[i], *value = i + 1 < argc ? argv[i + 1] : "";
+        if (!strcmp(word, "--lines") && !setup->lines && (!strcmp(value, "55") || !strcmp(value, "240"))) setup->lines = atoi(value);
+        else if (!strcmp(word, "--bits") && setup->bits < 0 && decimal(value) >= 0) setup->bits = decimal(value);
+        else if (!strcmp(word, "--times") && !*times && atol(value) > 0) *times = atol(value);
         else return 0;
     }
-    if (!*lines) *lines = 55;
+    if (!setup->lines) setup->lines = 55;
+    if (setup->bits < 0) setup->bits = 3;
     return 1;
 }
 
 int main(int argc, char **argv) {
     static uint8_t script[65537];
-    int lines = 0;
+    Setup setup;
     long times = 0;
-    if (!words(argc, argv, &lines, &times)) {
-        printf("usage: simulate [--lines 55|240]\n");
+    if (!words(argc, argv, &setup, &times)) {
+        printf("usage: simulate [--lines 55|240] [--bits N]\n");
         return 0;
     }
-    size_t n = fread(script, 1, sizeof script, stdin), bad = 65536;
+    size_t n = fread(script, 1, sizeof script, stdin), bad = 0;
     uint64_t sum = 0;
-    uint32_t broken = 15;
     if (times) {
-        while (times--) run(lines, script, n, 0, &sum, &bad);
+        while (times--) run(setup, script, n, 0, &sum, &bad);
         printf("%llu\n", (unsigned long long)sum);
         return 0;
     }
-    if (n <= 65536) broken = run(lines, script, n, 1, &sum, &bad);
+    uint32_t broken = run(setup, script, n, 1, &sum, &bad);
     fwrite(out, 1, out_length, stdout);
     if (broken) printf("script %u at %zu\n", broken, bad);
     return 0;

@@ -1,7 +1,8 @@
 """Random scripts of the events of documents 01 and 02, the same for the same seed: mostly sensible arguments, some out of range.
 
-A script is made for a chip of 55 or 240 lines and may be run on either. Those for 55 lines that keep no proviso, have no deep nest and
-are not about the memory guard stay what they are, so that measurements can be compared.
+A script is made for a chip of 55 or 240 lines and may be run on either, whatever it keeps of a priority byte. Those for 55 lines that keep
+no proviso, have no deep nest and are not about the memory guard or priorities near each other stay what they are, so that measurements can
+be compared.
 """
 import random
 
@@ -122,6 +123,72 @@ def guarded(r):
         yield [10, 0xFFFFFFF9]
 
 
+def near(r, byte):
+    """The byte, or more often one with another bit: whether that bit counts is up to the bits kept and the group setting."""
+    return byte ^ r.choice([0, 1, 2, 4, 8, 16, 32, 64])
+
+
+def four(r, byte):
+    """A word of bytes near this one. A single byte is written from its lowest."""
+    return sum(near(r, byte) << 8 * k for k in range(4))
+
+
+def grouping(r):
+    return [2, 4, 0xE000ED0C, 0x05FA0000 | r.choice([0, *range(8)]) << 8]
+
+
+def masking(r, byte):
+    """BASEPRI, often BASEPRI_MAX upon it: near the byte, near 0, 0, or with bits above a byte."""
+    first = [8, 2, r.choice([near(r, byte), near(r, byte), four(r, byte)])]
+    then = [8, 3, r.choice([near(r, byte), near(r, 0), near(r, 0), four(r, byte)])]
+    return r.choice([[first], [first, then], [first, then], [[8, 2, 0], then], [[8, 2, 0]]])
+
+
+def showing(r, byte, first):
+    """Priority bytes read, or written and then often read."""
+    width, address = r.choice([1, 4]), r.choice([0xE000E400 + first, 0xE000ED18, 0xE000ED1C, 0xE000ED20])
+    place = [width, address + (r.randrange(4) if width == 1 else 0)]
+    read, write = [1, *place], [2, *place, four(r, byte)]
+    return r.choice([[read], [write], [write, read]])
+
+
+def arriving(r, first):
+    """A line's level; PendSV or SysTick, by a write; or a fault or SVC, which HardFault takes where the group numbers say so."""
+    line, fault = [3, first + r.randrange(4), r.choice([0, 1, 1])], r.choice([[6, 0, 0], [6, 8, 0], [6, 16, 0], [7]])
+    return [r.choice([line, line, line, line, [2, 4, 0xE000ED04, 1 << 28], [2, 4, 0xE000ED04, 1 << 26], fault])]
+
+
+def nearby(r, byte, first):
+    """An event or two about priorities near the byte: of four lines from the first, of the system exceptions, of BASEPRI."""
+    what = r.randrange(20)
+    if what < 6:
+        return arriving(r, first)
+    if what < 9:
+        return showing(r, byte, first)
+    if what < 12:
+        return masking(r, byte)
+    if what < 13:
+        return [grouping(r)]
+    return [[9]] if what < 18 else [[10, r.choice([0xFFFFFFF1, 0xFFFFFFF1, 0xFFFFFFF9])]]
+
+
+def prioritised(r, lines):
+    """Priorities near each other, over and over, of other lines each time. Every second time also unprivileged, so that no write counts."""
+    yield [2, 4, 0xE000ED24, 0x70000]
+    while True:
+        byte, first = r.randrange(256), r.randrange(0, lines, 4)
+        yield from ([2, 4, 0xE000E100 + first // 32 * 4, 0xF << first % 32], grouping(r))
+        yield from ([2, 4, address, four(r, byte)] for address in (0xE000E400 + first, 0xE000ED18, 0xE000ED1C, 0xE000ED20))
+        for k in r.sample(range(4), 3):
+            yield from ([3, first + k, 1], [9])
+        for _ in range(r.randrange(40)):
+            yield from nearby(r, byte, first)
+        yield from ([10, 0xFFFFFFF1] for _ in range(r.randrange(4)))
+        yield from ([10, 0xFFFFFFF9], [8, 2, 0])
+        if r.randrange(2):
+            yield from ([8, 4, 1], *masking(r, byte), *showing(r, byte, first), [7], [9], [8, 4, 0], [10, 0xFFFFFFF9])
+
+
 def is_old(event):
     """Whether E4's proviso lets the event stand in an old script."""
     if event[0] == 3:
@@ -144,10 +211,11 @@ def events(r, lines, deep):
             yield shown(*one[1:])
 
 
-def script(seed, length, lines=55, old=False, deep=False, guard=False):
-    """At most `length` bytes of whole events; only those of an old script, with a deep nest first, or about the guard, if so asked."""
+def script(seed, length, lines=55, old=False, deep=False, guard=False, bits=False):
+    """At most `length` bytes of whole events; only those of an old script, with a deep nest first, or about the guard or priorities near
+    each other, if so asked."""
     out, r = bytearray(), random.Random(seed)
-    for one in guarded(r) if guard else events(r, lines, deep):
+    for one in guarded(r) if guard else prioritised(r, lines) if bits else events(r, lines, deep):
         if old and not is_old(one):
             continue
         more = b"".join(number(n) for n in one)

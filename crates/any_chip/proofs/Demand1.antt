@@ -1,9 +1,9 @@
 -- The rules' theorem at the setup's chip: a state is its setup and its model, so an unchanged model is an unchanged state.
 use mathlib.Core.Path.{_≡_, ap, sym, subst, _∙_}
 use mathlib.Core.Logic.{_⊎_, inl, inr, _↔_}
-use mathlib.Core.Bool.{false}
+use mathlib.Core.Bool.{true, false}
 use Rattle.script.specs.declared.Event.{Event}
-use Rattle.rules.specs.Chip.{chipOf}
+use Rattle.rules.specs.Chip.{chipOf, fits}
 use Rattle.rules.specs.Model.{Answer}
 use Rattle.rules.specs.Sound.{isSound}
 use Rattle.demand1.specs.Demand1 as rules
@@ -30,5 +30,6 @@ pub code-demand1 : CodeDemand1
 code-demand1 =
     record {
       events = λ s z e r q. subst (λ (x : Reply). (x .refusal ≡ 0) ⊎ Refused e s x) (sym q) (replied e s z (demand1 (chipOf (s .setup)) .events (model s) e));
-      unsound = λ s e r q. subst (λ (x : Reply). (x .refusal ≡ 16) ↔ (isSound (chipOf (s .setup)) (model s) ≡ false)) (sym q) (demand1 (chipOf (s .setup)) .unsound (model s) e);
+      misfit = λ s e r q. subst (λ (x : Reply). (x .refusal ≡ 17) ↔ (fits (chipOf (s .setup)) ≡ false)) (sym q) (demand1 (chipOf (s .setup)) .misfit (model s) e);
+      unsound = λ s e r q. subst (λ (x : Reply). (x .refusal ≡ 16) ↔ ((fits (chipOf (s .setup)) ≡ true) × (isSound (chipOf (s .setup)) (model s) ≡ false))) (sym q) (demand1 (chipOf (s .setup)) .unsound (model s) e);
     }

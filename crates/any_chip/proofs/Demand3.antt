@@ -1,10 +1,11 @@
 -- The rules' theorem at the setup's chip. A sound model is the view of its state, so a reply's equation is the answer's.
 use mathlib.Core.Path.{_≡_, refl, sym, ap, _∙_, subst}
 use mathlib.Core.List.{List, map}
+use lib.Dec.{T}
 use Rattle.script.specs.declared.Event.{Event}
 use Rattle.script.specs.declared.Event.the-variants.{Entry}
 use Rattle.rules.specs.declared.Setup.{Setup}
-use Rattle.rules.specs.Chip.{chipOf}
+use Rattle.rules.specs.Chip.{chipOf, fits}
 use Rattle.rules.specs.Model.{Model, Answer, fresh}
 use Rattle.rules.specs.Sound.{Sound}
 use Rattle.rules.specs.Step.{stepOf}
@@ -36,11 +37,11 @@ called-fresh {t} {es} {rs} setup k =
     let f = view-laws .viewed setup (fresh c) (sound-fresh c) in
     subst (λ (m : Model). Calls (chipOf setup) m es (map answer rs) (model t)) f (called setup refl (subst (Sound (chipOf setup)) (sym f) (sound-fresh (chipOf setup))) k)
 
-pub code-demand3 : (setup : Setup) → CodeDemand3 setup
-code-demand3 setup =
+pub code-demand3 : (setup : Setup) → T (fits (chipOf setup)) → CodeDemand3 setup
+code-demand3 setup f =
     record {
-      calls = λ es rs t k. demand3 (chipOf setup) .calls es (map answer rs) (model t) (called-fresh setup k);
+      calls = λ es rs t k. demand3 (chipOf setup) f .calls es (map answer rs) (model t) (called-fresh setup k);
       entries = λ s r q h k.
           let a = ap answer k ∙ answered setup (stepOf (chipOf setup) (model s) Entry) (step-keeps h Entry) in
-          subst (Entering (model s)) (sym a) (demand3 (chipOf setup) .entries (model s) h);
+          subst (Entering (model s)) (sym a) (demand3 (chipOf setup) f .entries (model s) h);
     }

@@ -16,14 +16,14 @@ use Rattle.rules.specs.declared.Part.the-variants.{Lines55, Lines240}
 use Rattle.rules.specs.declared.Setup.{Setup}
 use Rattle.rules.specs.declared.Core.{Core}
 use Rattle.rules.specs.declared.Outcome.{Outcome}
-use Rattle.rules.specs.Chip.{partChip, chipOf, flagCount, exceptionCount}
+use Rattle.rules.specs.Chip.{partChip, withBits, chipOf, fits, flagCount, exceptionCount}
 use Rattle.rules.specs.Model.{Model, Answer, fresh, freshCore, withCore}
 use Rattle.rules.specs.Lent.{modelOf, answer}
 use Rattle.rules.specs.Sound.{isSound, Sound}
-use Rattle.rules.specs.Step.{guarded, actOf, stepOf}
+use Rattle.rules.specs.Step.{guarded, admitted, actOf, stepOf}
 use Rattle.places.specs.declared.Reach.{Reach}
 use Rattle.places.specs.Places.{nonzero, occupied, Blocks, reachOf, padded}
-use Rattle.guarded.specs.Fits.{Fits}
+use Rattle.guarded.specs.FewLines.{FewLines}
 use Rattle.demand3.proofs.Check.{of-sound}
 use Rattle.demand3.proofs.Steps.{act-sound}
 use Rattle.any_chip.specs.declared.Reply.{Reply}
@@ -34,12 +34,12 @@ use Rattle.places.proofs.Laws.{reach-fits, put, whole, free-byte, free-pending,
 
 -- ---- the chips that a setup names
 
-pub setup-fits : (s : Setup) → Fits (chipOf s)
-setup-fits s = fits (s .part)
+pub few-lines : (s : Setup) → FewLines (chipOf s)
+few-lines s = few (s .part)
   where
-    fits : (p : Part) → Fits (partChip p)
-    fits Lines55 = record { lines = omega arith }
-    fits Lines240 = record { lines = omega arith }
+    few : (p : Part) → FewLines (withBits (s .bits) (partChip p))
+    few Lines55 = record { lines = omega arith }
+    few Lines240 = record { lines = omega arith }
 
 pub flags-fit : (s : Setup) → flagCount (chipOf s) ≤ 256
 flags-fit s = fit (s .part)
@@ -58,7 +58,7 @@ nest-fits s = fit (s .part)
 pub setup-blocks : (s : Setup) → Blocks (chipOf s)
 setup-blocks s = blocks (s .part)
   where
-    blocks : (p : Part) → Blocks (partChip p)
+    blocks : (p : Part) → Blocks (withBits (s .bits) (partChip p))
     blocks Lines55 = record { flags = inl (omega arith); nest = inl (omega arith) }
     blocks Lines240 = record { flags = inr refl; nest = inr refl }
 
@@ -190,10 +190,12 @@ both-sound h k =
     }
 
 kept-lengths : (c : Chip) (m : Model) (e : Event) → SameLengths (stepOf c m e .next) m
-unfolding guarded
+unfolding admitted guarded
 kept-lengths c m e =
-    by-cases (λ (a : Answer). SameLengths (a .next) m) (isSound c m)
+    by-cases (λ (a : Answer). SameLengths (a .next) m) (fits c)
+    (λ _. by-cases (λ (a : Answer). SameLengths (a .next) m) (isSound c m)
     (λ t. let h = of-sound c m t in both-sound (act-sound h e) h)
+    (λ _. unchanged m))
     (λ _. unchanged m)
 
 -- ---- what comes back

@@ -18,6 +18,6 @@ Bounded setup bare =
 
 pub record CodeBounded : Type 0 where
   -- "at most 63 are nested"
-  pub lines55 : Bounded (record { part = Lines55 }) 63
+  pub lines55 : Bounded (record { part = Lines55; bits = 3 }) 63
   -- document 02, E4: "In demand 3 the bare bound becomes 248 for this chip."
-  pub lines240 : Bounded (record { part = Lines240 }) 248
+  pub lines240 : Bounded (record { part = Lines240; bits = 3 }) 248

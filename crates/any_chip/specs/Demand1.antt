@@ -2,10 +2,10 @@
 -- model .. unchanged." `demand1` states it of the rules, for every chip; here it is said of the replies.
 use mathlib.Core.Path.{_≡_}
 use mathlib.Core.Logic.{_⊎_, _↔_}
-use mathlib.Core.Bool.{false}
+use mathlib.Core.Bool.{true, false}
 use lib.Dec.{T}
 use Rattle.script.specs.declared.Event.{Event}
-use Rattle.rules.specs.Chip.{chipOf, isIn}
+use Rattle.rules.specs.Chip.{chipOf, fits, isIn}
 use Rattle.rules.specs.Sound.{isSound}
 use Rattle.rules.specs.Step.{stepOf}
 use Rattle.demand1.specs.Demand1.{refusals}
@@ -26,5 +26,7 @@ pub record Refused (e : Event) (s : State) (r : Reply) : Type 0 where
 -- entry, return_, access. The state is any: with something past its chip's places too.
 pub record CodeDemand1 : Type 0 where
   pub events : (s : State) → Sized s → (e : Event) (r : Reply) → r ≡ reply (s .setup) (stepOf (chipOf (s .setup)) (model s) e) → (r .refusal ≡ 0) ⊎ Refused e s r
-  -- "16: state not sound": in exactly that case
-  pub unsound : (s : State) (e : Event) (r : Reply) → r ≡ reply (s .setup) (stepOf (chipOf (s .setup)) (model s) e) → (r .refusal ≡ 16) ↔ (isSound (chipOf (s .setup)) (model s) ≡ false)
+  -- document 02, E7: "17, a chip setup with w outside 3 to 8, checked before all others, 15 and 16 too": in exactly that case, whatever the state is
+  pub misfit : (s : State) (e : Event) (r : Reply) → r ≡ reply (s .setup) (stepOf (chipOf (s .setup)) (model s) e) → (r .refusal ≡ 17) ↔ (fits (chipOf (s .setup)) ≡ false)
+  -- "16: state not sound": in exactly that case, with a setup that fits
+  pub unsound : (s : State) (e : Event) (r : Reply) → r ≡ reply (s .setup) (stepOf (chipOf (s .setup)) (model s) e) → (r .refusal ≡ 16) ↔ ((fits (chipOf (s .setup)) ≡ true) × (isSound (chipOf (s .setup)) (model s) ≡ false))

@@ -1,4 +1,4 @@
-// The calls. Each takes any state and any numbers: a state that is not sound is refused by 16, and handed back.
+// The calls. Each takes any state and any numbers: one whose setup keeps no 3 to 8 bits is refused by 17, then one that is not sound by 16, and handed back.
 ghost use mathlib.Core.Path.{_≡_};
 ghost use Rattle.rules.specs.Chip.{chipOf};
 ghost use Rattle.rules.specs.Step.{stepOf};

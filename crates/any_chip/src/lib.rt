@@ -1,6 +1,7 @@
 // The state by value of every chip that a setup names, and the calls on it. Each call hands back its answer with the next state.
 ghost use mathlib.Core.Path.{_≡_};
-ghost use Rattle.rules.specs.Chip.{chipOf};
+ghost use mathlib.Core.Bool.{_&&_};
+ghost use Rattle.rules.specs.Chip.{chipOf, fits};
 ghost use Rattle.rules.specs.Model.{fresh, stack, depthOf, top};
 ghost use Rattle.rules.specs.Priorities.{execution};
 ghost use Rattle.rules.specs.Sound.{isSound};
@@ -90,7 +91,7 @@ impl State {
         core.depth
     }
 
-    // For every state, sound or not, by a scan over all flags.
+    // For every state, sound or not and whatever its setup, by a scan over all flags.
     pub fn execution_priority(self) -> i32
         ensures { λ r. ⌜ r ≡ execution (model self) ⌝ }
     {
@@ -109,11 +110,15 @@ impl State {
         )
     }
 
-    // The test of refusal 16.
+    // The tests of refusals 17 and 16.
     pub fn is_sound(self) -> bool
-        ensures { λ r. ⌜ r ≡ isSound (chipOf (self .setup)) (model self) ⌝ }
+        ensures { λ r. ⌜ r ≡ (fits (chipOf (self .setup)) && isSound (chipOf (self .setup)) (model self)) ⌝ }
     {
         let setup = self.setup;
+        let chip = setup.chip();
+        if !chip.fits() {
+            return false;
+        }
         let reach = self.reach();
         let pending = self.pending;
         let active = self.active;
@@ -123,7 +128,7 @@ impl State {
         let nest = self.nest;
         let core = self.core;
         sound_state::is_sound(
-            setup.chip(),
+            chip,
             &pending[..reach.places],
             &active[..reach.places],
             &enabled[..reach.places],

@@ -1,10 +1,11 @@
-// Worked cases of document 02, E4, run by call on the state of any chip, a labelled line for each: what must be printed was worked out from
-// documents 01 and 02. A case is a row of numbers, handed to a function that makes its state.
+// Worked cases of document 02, E4 and E7, run by call on the state of any chip, a labelled line for each: what must be printed was worked out
+// from documents 01 and 02. A case is a row of numbers, handed to a function that makes its state.
 mod nesting;
 mod registers;
 mod same;
 mod show;
 mod soundness;
+mod widths;
 
 use rules::Part;
 
@@ -17,4 +18,6 @@ fn main() {
     soundness::cases(Part::Lines240);
     nesting::nest(Part::Lines240);
     nesting::nest(Part::Lines55);
+    widths::kept();
+    widths::refused();
 }

@@ -10,7 +10,7 @@ use rules::Part;
 use rules::Setup;
 
 pub fn chip(part: Part) -> State {
-    State::fresh(Setup { part })
+    State::fresh(Setup { part, bits: 3 })
 }
 
 // A word is written.
@@ -23,9 +23,13 @@ fn rises(label: &[u8], part: Part, line: u32) {
     told(label, chip(part).line(line, 1));
 }
 
-// The refusal of a write to a fresh chip; then that of a read, and what is read.
 fn kept(label: &[u8], part: Part, width: u32, at: u32, value: u32, from: u32) {
-    let w = chip(part).write(width, at, value);
+    kept_by(label, chip(part), width, at, value, from);
+}
+
+// The refusal of a write; then that of a read, and what is read.
+pub fn kept_by(label: &[u8], s: State, width: u32, at: u32, value: u32, from: u32) {
+    let w = s.write(width, at, value);
     let s = w.state;
     let r = s.read(width, from);
     begin(s.setup, label);

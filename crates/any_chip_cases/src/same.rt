@@ -64,6 +64,9 @@ pub fn same_state(a: State, b: State) -> bool {
     if chip.lines != chip_too.lines {
         return false;
     }
+    if chip.bits != chip_too.bits {
+        return false;
+    }
     let core = a.core;
     if !same_core(core, b.core) {
         return false;

@@ -22,10 +22,21 @@ pub fn hex(n: u32) {
     io::print_hex(STDOUT_FILENO, n as u64, 8);
 }
 
+// How many bits of a priority byte are kept, where it is not three.
+fn bits(n: u32) {
+    if n != 3 {
+        text(b",");
+        decimal(n);
+        text(b" bits");
+    }
+}
+
 pub fn begin(setup: Setup, label: &[u8]) {
     let chip = setup.chip();
     plain(chip.lines as u64);
-    text(b" lines: ");
+    text(b" lines");
+    bits(chip.bits);
+    text(b": ");
     text(label);
     text(b":");
 }

@@ -73,7 +73,7 @@ fn every_call(s: State) {
 }
 
 // Whether it is sound; if it is not, what every call says.
-fn tried(label: &[u8], s: State) {
+pub fn tried(label: &[u8], s: State) {
     begin(s.setup, label);
     let sound = s.is_sound();
     judged(sound);
@@ -87,6 +87,11 @@ fn place(label: &[u8], part: Part, field: Field, i: usize)
     requires { ⌜ i < 248 ⌝ }
 {
     tried(label, poked(chip(part), field, i));
+}
+
+// 20 is active and not nested.
+pub fn unsound(s: State) -> State {
+    poked(s, Field::Active, 20)
 }
 
 // "the nested exceptions are distinct and exactly the active ones", so that an active flag or a place of the nest alone is sound on no chip.

@@ -13,7 +13,7 @@ use Rattle.script.specs.Script.{Script}
 use Rattle.rules.specs.declared.Chip.{Chip}
 use Rattle.rules.specs.declared.Core.{Core}
 use Rattle.rules.specs.declared.Setup.{Setup}
-use Rattle.rules.specs.Chip.{chipOf}
+use Rattle.rules.specs.Chip.{chipOf, fits}
 use Rattle.rules.specs.Model.{Model, fresh}
 use Rattle.rules.specs.Sound.{isSound, Sound}
 use Rattle.rules.specs.Step.{stepOf, runOf}
@@ -55,8 +55,10 @@ piece-left : (c : Chip) (script : List ℕ) (m : Model) (p : Course) (room : ℕ
 unfolding pieceOf
 piece-left c script m p room =
     by-cases (λ (q : Piece). Left c m (q .model)) (p .ended) (λ _. inl refl)
+    (λ _. by-cases (λ (q : Piece). Left c m (q .model)) (fits c)
     (λ _. by-cases (λ (q : Piece). Left c m (q .model)) (ltb 65536 (length script) || isUsable c m p)
     (λ t. gone-left c script m p room (either (ltb 65536 (length script)) (isUsable c m p) t))
+    (λ _. inl refl))
     (λ _. inl refl))
 
 left-lengths : {c : Chip} {m t : Model} → Left c m t → SameLengths t m

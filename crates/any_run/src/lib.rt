@@ -10,7 +10,8 @@ use pieces::Course;
 use rules::Setup;
 
 // How far a script has run: the state after `events` events, the offset of the next, whether the script has ended, how many bytes of the
-// buffer the last call wrote, and 16 where it was refused: the state is not sound, or no script has so many events in so many bytes.
+// buffer the last call wrote, and 17 or 16 where it was refused: the setup keeps no 3 to 8 bits of a priority byte; the state is not sound, or no
+// script has so many events in so many bytes.
 pub struct Progress {
     pub state: State,
     pub at: usize,
@@ -20,7 +21,7 @@ pub struct Progress {
     pub refusal: u32,
 }
 
-// Before the first event of any script.
+// Before the first event of any script, whatever the setup: one that keeps no 3 to 8 bits is refused by `run_some`.
 pub fn start(setup: Setup) -> Progress
     ensures { λ r. ⌜ r ≡ started setup ⌝ }
     ensures usable { λ r. ⌜ Usable r ⌝ }

@@ -1,11 +1,11 @@
--- Each call is its refusals in a row, each with a number of its kind and nothing else, and then what it does; the test of soundness comes before all.
-use Prim.Native.Nat.{ℕ, _%_}
-use mathlib.Core.Path.{_≡_, refl, subst}
+-- Each call is its refusals in a row, each with a number of its kind and nothing else, and then what it does; the tests of the chip and of soundness come before all.
+use Prim.Native.Nat.{ℕ, _%_, _<_}
+use mathlib.Core.Path.{_≡_, refl, sym}
 use mathlib.Core.Logic.{_⊎_, inl, inr, _↔_}
 use mathlib.Core.List.{[], _∷_}
 use mathlib.Core.Bool.{Bool, true, false, not, cond, _||_}
 use native.Mathlib.Omega.{arith}
-use lib.Dec.{T, ltb, leb, eqb, T-not}
+use lib.Dec.{T, ltb, leb, eqb, ltb→lt, T-not}
 use lib.IntN.{ℤ}
 use Rattle.priority.specs.declared.Found.{Found}
 use Rattle.priority.specs.declared.Found.the-variants.{At, Nothing}
@@ -17,7 +17,8 @@ use Rattle.rules.specs.declared.Chip.{Chip}
 use Rattle.rules.specs.declared.System.{System}
 use Rattle.rules.specs.declared.Register.{Register}
 use Rattle.rules.specs.declared.Register.the-variants as reg
-use Rattle.rules.specs.Chip.{isIn}
+use Rattle.rules.specs.Chip.{isIn, fits}
+use Rattle.rules.specs.Laws.{all, in-all}
 use Rattle.rules.specs.Model.{Model, Answer, refuse}
 use Rattle.rules.specs.Priorities.{execution, isNegative, privileged}
 use Rattle.rules.specs.Sound.{isSound}
@@ -26,7 +27,7 @@ use Rattle.rules.specs.Nesting.{chosen, enter, entryAt, entryCall, linkFits, re
 use Rattle.rules.specs.Map.{registerOf, widthRefusal}
 use Rattle.rules.specs.Registers.{isWidth, accessRefusal, readCall, freeWrite, writeCall}
 use Rattle.rules.specs.Access.{fitsAccess, accessAt, accessCall}
-use Rattle.rules.specs.Step.{actOf, guarded, stepOf}
+use Rattle.rules.specs.Step.{actOf, guarded, admitted, stepOf}
 use Rattle.demand1.specs.Demand1.{ownRefusals, Refused, Demand1}
 
 -- ---- the checks of a register access give 0 or one of 1 to 5
@@ -152,38 +153,61 @@ module _ (c : Chip) (m : Model) where
   act-fine (event.Return v) = return-fine v
   act-fine (event.Access kind w a) = access-fine (accessNumber kind) w a (event.Access kind w a) refl
 
-  no-sixteen : (e : Event) → T (isIn 16 (ownRefusals e)) → ⊥
-  no-sixteen (event.Read w a) t = t
-  no-sixteen (event.Write w a v) t = t
-  no-sixteen (event.Line line level) t = t
-  no-sixteen event.Nmi t = t
-  no-sixteen event.Tick t = t
-  no-sixteen (event.Fault b a) t = t
-  no-sixteen event.Svc t = t
-  no-sixteen (event.Special which v) t = t
-  no-sixteen event.Entry t = t
-  no-sixteen (event.Return v) t = t
-  no-sixteen (event.Access kind w a) t = t
+  own-below : (e : Event) → T (all (λ (n : ℕ). ltb n 16) (ownRefusals e))
+  unfolding all
+  own-below (event.Read w a) = tt
+  own-below (event.Write w a v) = tt
+  own-below (event.Line line level) = tt
+  own-below event.Nmi = tt
+  own-below event.Tick = tt
+  own-below (event.Fault b a) = tt
+  own-below event.Svc = tt
+  own-below (event.Special which v) = tt
+  own-below event.Entry = tt
+  own-below (event.Return v) = tt
+  own-below (event.Access kind w a) = tt
+
+  -- an event that is let through answers neither 16 nor 17
+  below-16 : (e : Event) → Fine e (actOf c m e) → actOf c m e .refusal < 16
+  below-16 e (inl z) = omega arith
+  below-16 e (inr r) = ltb→lt (actOf c m e .refusal) 16 (in-all (λ (n : ℕ). ltb n 16) (actOf c m e .refusal) (ownRefusals e) (own-below e) (r .number))
 
   events : (e : Event) → (stepOf c m e .refusal ≡ 0) ⊎ Refused e m (stepOf c m e)
-  unfolding guarded
-  events e = by-cases (λ a. (a .refusal ≡ 0) ⊎ Refused e m a) (isSound c m) (λ _. weak (act-fine e)) (λ _. inr (record { number = tt; nothing = refl }))
+  unfolding admitted guarded
+  events e =
+      by-cases (λ a. (a .refusal ≡ 0) ⊎ Refused e m a) (fits c)
+      (λ _. by-cases (λ a. (a .refusal ≡ 0) ⊎ Refused e m a) (isSound c m) (λ _. weak (act-fine e)) (λ _. inr (record { number = tt; nothing = refl })))
+      (λ _. inr (record { number = tt; nothing = refl }))
     where
       weak : {a : Answer} → Fine e a → (a .refusal ≡ 0) ⊎ Refused e m a
       weak (inl z) = inl z
-      weak {a} (inr r) = inr (record { number = or-right (eqb (a .refusal) 16) (isIn (a .refusal) (ownRefusals e)) (r .number); nothing = r .nothing })
+      weak {a} (inr r) =
+          inr (record {
+            number = or-right (eqb (a .refusal) 17) (isIn (a .refusal) (16 ∷ ownRefusals e)) (or-right (eqb (a .refusal) 16) (isIn (a .refusal) (ownRefusals e)) (r .number));
+            nothing = r .nothing;
+          })
 
-  unsound : (e : Event) → (stepOf c m e .refusal ≡ 16) ↔ (isSound c m ≡ false)
-  unfolding guarded
-  unsound e = go (isSound c m)
+  -- by the two tests, in their order
+  abbrev tested : Bool → Bool → Event → Answer
+  tested f s e = cond f (cond s (actOf c m e) (refuse 16 m)) (refuse 17 m)
+
+  misfit : (e : Event) → (stepOf c m e .refusal ≡ 17) ↔ (fits c ≡ false)
+  unfolding admitted guarded
+  misfit e = go (fits c) (isSound c m)
     where
-      never : Fine e (actOf c m e) → actOf c m e .refusal ≡ 16 → ⊥
-      never (inl z) q = omega arith
-      never (inr r) q = no-sixteen e (subst (λ n. T (isIn n (ownRefusals e))) q (r .number))
+      go : (f s : Bool) → (tested f s e .refusal ≡ 17) ↔ (f ≡ false)
+      go true true = (λ q. let l = below-16 e (act-fine e) in let z : ⊥ = omega arith in absurd z, λ q. absurd (is-false q tt))
+      go true false = (λ q. let z : ⊥ = omega (arith, q) in absurd z, λ q. absurd (is-false q tt))
+      go false s = (λ _. refl, λ _. refl)
 
-      go : (b : Bool) → (cond b (actOf c m e) (refuse 16 m) .refusal ≡ 16) ↔ (b ≡ false)
-      go true = (λ q. absurd (never (act-fine e) q), λ q. absurd (is-false q tt))
-      go false = (λ _. refl, λ _. refl)
+  unsound : (e : Event) → (stepOf c m e .refusal ≡ 16) ↔ ((fits c ≡ true) × (isSound c m ≡ false))
+  unfolding admitted guarded
+  unsound e = go (fits c) (isSound c m)
+    where
+      go : (f s : Bool) → (tested f s e .refusal ≡ 16) ↔ ((f ≡ true) × (s ≡ false))
+      go true true = (λ q. let l = below-16 e (act-fine e) in let z : ⊥ = omega arith in absurd z, λ q. absurd (is-false (q .1) tt))
+      go true false = (λ _. (refl, refl), λ _. refl)
+      go false s = (λ q. let z : ⊥ = omega (arith, q) in absurd z, λ q. absurd (is-false (sym (q .0)) tt))
 
 pub demand1 : (c : Chip) → Demand1 c
-demand1 c = record { events = events c; unsound = unsound c }
+demand1 c = record { events = events c; misfit = misfit c; unsound = unsound c }

@@ -4,7 +4,7 @@ use Prim.Native.Nat.{ℕ}
 use mathlib.Core.Path.{_≡_}
 use mathlib.Core.Logic.{_⊎_, _↔_}
 use mathlib.Core.List.{List, [], _∷_}
-use mathlib.Core.Bool.{Bool, false}
+use mathlib.Core.Bool.{Bool, true, false}
 use lib.ListN.{length}
 use lib.Dec.{T}
 use Rattle.script.specs.declared.Event.{Event}
@@ -17,14 +17,14 @@ use Rattle.frame.specs.declared.Stacked.{Stacked}
 use Rattle.frame.specs.declared.Unstacked.{Unstacked}
 use Rattle.frame.specs.Frame.{stacked, stackedWindow, unstacked, noWords}
 use Rattle.rules.specs.declared.Chip.{Chip}
-use Rattle.rules.specs.Chip.{isIn}
+use Rattle.rules.specs.Chip.{isIn, fits}
 use Rattle.rules.specs.Model.{Model, Answer, refuse}
 use Rattle.rules.specs.Sound.{isSound}
 use Rattle.rules.specs.Step.{stepOf}
 
 -- ---- events
 
--- the refusals of each kind of event, "in order 16, 12, 6, 1, 2, 3, 4, 5, 7, 10, 8, 9, 11", after 16
+-- the refusals of each kind of event, "in order 16, 12, 6, 1, 2, 3, 4, 5, 7, 10, 8, 9, 11", after 17 and 16
 abbrev pub ownRefusals : Event → List ℕ
 -- "1: width not 1, 2 or 4", "2: address no multiple of the width", "3: register access unprivileged, but for a word write to SWTRIG with
 -- CFGCTRL bit 1 set", "4: the aligned word holding this address is no register", "5: width not allowed there"
@@ -46,9 +46,9 @@ ownRefusals (event.Return v) = 9 ∷ []
 -- "6: .. access kind above 2", "1: width not 1, 2 or 4; a fetch not 2", "2: address no multiple of the width"
 ownRefusals (event.Access kind w a) = 6 ∷ 1 ∷ 2 ∷ []
 
--- "16: state not sound", of every kind
+-- "16: state not sound", of every kind; document 02, E7: "17, a chip setup with w outside 3 to 8, checked before all others"
 abbrev pub refusals : Event → List ℕ
-refusals e = 16 ∷ ownRefusals e
+refusals e = 17 ∷ 16 ∷ ownRefusals e
 
 -- "A refusal returns its number with every other field 0 and changes nothing."
 pub record Refused (e : Event) (m : Model) (a : Answer) : Type 0 where
@@ -60,8 +60,10 @@ pub record Refused (e : Event) (m : Model) (a : Answer) : Type 0 where
 pub record Demand1 (c : Chip) : Type 0 where
   -- "A refusal carries its number from document 01 .. and leaves the model .. unchanged."
   pub events : (m : Model) (e : Event) → (stepOf c m e .refusal ≡ 0) ⊎ Refused e m (stepOf c m e)
-  -- "16: state not sound": in exactly that case
-  pub unsound : (m : Model) (e : Event) → (stepOf c m e .refusal ≡ 16) ↔ (isSound c m ≡ false)
+  -- "17, a chip setup with w outside 3 to 8, checked before all others, 15 and 16 too": in exactly that case, whatever the state is
+  pub misfit : (m : Model) (e : Event) → (stepOf c m e .refusal ≡ 17) ↔ (fits c ≡ false)
+  -- "16: state not sound": in exactly that case, on a chip that fits
+  pub unsound : (m : Model) (e : Event) → (stepOf c m e .refusal ≡ 16) ↔ ((fits c ≡ true) × (isSound c m ≡ false))
 
 -- ---- ".. and every lent byte unchanged": scripts and frames
 

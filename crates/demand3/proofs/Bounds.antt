@@ -4,22 +4,23 @@ use mathlib.Core.Path.{_≡_, refl, subst}
 use mathlib.Core.List.{List, []}
 use native.Mathlib.Omega.{arith}
 use lib.ListN.{length}
+use lib.Dec.{T}
 use Rattle.script.specs.declared.Event.{Event}
 use Rattle.rules.specs.declared.Chip.{Chip}
-use Rattle.rules.specs.Chip.{chip55, chip240, exceptionCount}
+use Rattle.rules.specs.Chip.{chip55, chip240, fits, exceptionCount}
 use Rattle.rules.specs.Model.{Model, Answer, fresh}
 use Rattle.demand3.specs.Demand3.{Calls, ledger, Steady}
 use Rattle.demand3.specs.Bounds.{Bounded, Bounded55, Bounded240}
 use Rattle.demand3.proofs.Demand3.{calls}
 
-module _ (c : Chip) (three : c .bits ≡ 3) where
+module _ (c : Chip) (f : T (fits c)) (three : c .bits ≡ 3) where
   by-levels : {es : List Event} {rs : List Answer} {t : Model} → Calls c (fresh c) es rs t → (j : ℕ) → Steady (fresh c) rs → min 3 (7 - t .core .group) ≡ j → length (ledger [] es rs) ≤ 2 ^ j + 2
-  by-levels {es} {rs} {t} k j steady e = rw (three, e) at (calls c es rs t k .few steady)
+  by-levels {es} {rs} {t} k j steady e = rw (three, e) at (calls c f es rs t k .few steady)
 
   bounded : (bare : ℕ) → exceptionCount c ≡ bare → Bounded c bare
   bounded bare count es rs t k =
       record {
-        most = subst (λ (n : ℕ). length (ledger [] es rs) ≤ n) count (calls c es rs t k .most);
+        most = subst (λ (n : ℕ). length (ledger [] es rs) ≤ n) count (calls c f es rs t k .most);
         upTo4 = λ u h. by-levels k 3 u (omega arith);
         at5 = λ u h. by-levels k 2 u (omega arith);
         at6 = λ u h. by-levels k 1 u (omega arith);
@@ -27,7 +28,7 @@ module _ (c : Chip) (three : c .bits ≡ 3) where
       }
 
 pub bounded-55 : Bounded55
-bounded-55 = bounded chip55 refl 63 refl
+bounded-55 = bounded chip55 tt refl 63 refl
 
 pub bounded-240 : Bounded240
-bounded-240 = bounded chip240 refl 248 refl
+bounded-240 = bounded chip240 tt refl 248 refl

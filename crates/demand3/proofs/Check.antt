@@ -1,4 +1,4 @@
--- The test of a model passes exactly on the sound ones, part by part. So on a sound model a call acts.
+-- The test of a model passes exactly on the sound ones, part by part. So on a sound model of a chip that fits a call acts.
 use Prim.Native.Nat.{ℕ, _≤_, _<_}
 use mathlib.Core.Path.{_≡_, refl, sym, subst}
 use mathlib.Core.Logic.{_⊎_, inl, inr}
@@ -19,11 +19,11 @@ use Rattle.rules.specs.declared.Chip.{Chip}
 use Rattle.rules.specs.declared.Place.{Place}
 use Rattle.rules.specs.declared.Place.the-variants.{Exception, Enable, Line}
 use Rattle.rules.specs.declared.System.{System}
-use Rattle.rules.specs.Chip.{flagCount, exceptionCount, isIn, hasByte, stands}
-use Rattle.rules.specs.Model.{Model, stack}
+use Rattle.rules.specs.Chip.{fits, flagCount, exceptionCount, isIn, hasByte, stands}
+use Rattle.rules.specs.Model.{Model, Answer, stack}
 use Rattle.rules.specs.SystemBlock.{keptVtable, keptSysctrl, keptCfgctrl, keptFaultstat, keptHfaultstat}
 use Rattle.rules.specs.Sound.{flagSound, byteSound, nestedSound, allOn, allDistinct, unusedSound, soundNest, soundFlags, soundSystem, isSized, isSound, Flags, PriorityBytes, Nested, Places, SoundSystem, Sound}
-use Rattle.rules.specs.Step.{actOf, guarded, stepOf}
+use Rattle.rules.specs.Step.{actOf, guarded, admitted, stepOf}
 use Rattle.rules.specs.Laws.{isIn-mem, mem-isIn}
 use Rattle.demand3.proofs.Parts.{kept-byte-zero, down-length, nested-fits}
 
@@ -210,6 +210,10 @@ of-sound c m t =
       };
     }
 
-pub step-sound : {c : Chip} {m : Model} → Sound c m → (e : Event) → stepOf c m e ≡ actOf c m e
+pub guard-passes : {c : Chip} {m : Model} → Sound c m → (a : Answer) → guarded c m a ≡ a
 unfolding guarded
-step-sound {c} {m} h e = rw (true-is (isSound c m) (sound-of h))
+guard-passes {c} {m} h a = rw (true-is (isSound c m) (sound-of h))
+
+pub step-sound : {c : Chip} {m : Model} → T (fits c) → Sound c m → (e : Event) → stepOf c m e ≡ actOf c m e
+unfolding admitted
+step-sound {c} {m} f h e = rw (true-is (fits c) f) (guard-passes h (actOf c m e))

@@ -17,13 +17,15 @@ use Rattle.grouping.specs.Grouping.{grouped, groupPriority}
 use Rattle.priority.specs.declared.Found.{Found}
 use Rattle.priority.specs.declared.Found.the-variants.{At, Nothing}
 use Rattle.priority.specs.Laws.{execution-least, byFaultmask}
+use Rattle.script.specs.declared.Event.{Event}
 use Rattle.script.specs.declared.Event.the-variants.{Entry, Return}
 use Rattle.rules.specs.declared.Chip.{Chip}
+use Rattle.rules.specs.Chip.{fits}
 use Rattle.rules.specs.Model.{Model, Answer, done, stack, top}
 use Rattle.rules.specs.Priorities.{groupNumber, execution}
 use Rattle.rules.specs.Sound.{Sound}
 use Rattle.rules.specs.Nesting.{chosen, linkOf, entered, enter, entryAt, linkFits, returnedMasks, repended, returned, returnCall}
-use Rattle.rules.specs.Step.{stepOf}
+use Rattle.rules.specs.Step.{admitted, stepOf}
 use Rattle.demand3.specs.Demand3.{call}
 use Rattle.demand3.specs.ComesAndGoes.{cameAndWent, ComesAndGoes}
 use Rattle.demand3.proofs.Check.{step-sound}
@@ -97,20 +99,28 @@ module _ {c : Chip} {m : Model} (h : Sound c m) (n : ℕ) (pends : T (on (m .pen
 
 -- ---- what entry answers, and the return on what it left
 
-came : {c : Chip} {m : Model} → Sound c m → (o : Found) → chosen m ≡ o → enter m o .refusal ≡ 0
+came : {c : Chip} {m : Model} → T (fits c) → Sound c m → (o : Found) → chosen m ≡ o → enter m o .refusal ≡ 0
     → stepOf c (enter m o .next) (Return (enter m o .link)) ≡ done (top (stack m)) (cameAndWent (enter m o .value) m)
-came h Nothing e accepted = absurd (omega arith)
-came {m = m} h (At n) e accepted =
+came f h Nothing e accepted = absurd (omega arith)
+came {m = m} f h (At n) e accepted =
     let a = chosen-able h n e in
-    step-sound (sound-entered h n (a .pends) (a .below)) (Return (linkOf (m .core))) ∙ return-back h n (a .pends) (a .below)
+    step-sound f (sound-entered h n (a .pends) (a .below)) (Return (linkOf (m .core))) ∙ return-back h n (a .pends) (a .below)
+
+-- what is accepted is on a chip that fits
+accepted-fits : (c : Chip) (m : Model) (e : Event) → stepOf c m e .refusal ≡ 0 → T (fits c)
+unfolding admitted
+accepted-fits c m e = by-cases (λ (a : Answer). a .refusal ≡ 0 → T (fits c)) (fits c) (λ f _. f) (λ _ q. let z : ⊥ = omega arith in absurd z)
 
 pub comes-and-goes : (c : Chip) → ComesAndGoes c
 unfolding entryAt execution
 comes-and-goes c m t a b h (call p (call q _)) accepted =
     record { back = back; priority = ap (λ (x : Answer). execution (x .next)) back }
   where
+    f : T (fits c)
+    f = accepted-fits c m Entry (subst (λ (x : Answer). x .refusal ≡ 0) p accepted)
+
     back : b ≡ done (top (stack m)) (cameAndWent (a .value) m)
     back =
         q
         ∙ subst (λ (x : Answer). x .refusal ≡ 0 → stepOf c (x .next) (Return (x .link)) ≡ done (top (stack m)) (cameAndWent (x .value) m))
-        (sym (p ∙ step-sound h Entry)) (came h (chosen m) refl) accepted
+        (sym (p ∙ step-sound f h Entry)) (came f h (chosen m) refl) accepted

@@ -1,9 +1,11 @@
--- The third demand, for every chip: by induction over the list of calls, from what one call does.
+-- The third demand, for every chip that fits: by induction over the list of calls, from what one call does.
 use Prim.Native.Nat.{ℕ, _≤_}
 use mathlib.Core.Path.{_≡_, refl, sym, ap, subst, _∙_}
 use mathlib.Core.List.{List, [], _∷_, List·Memᴰ}
+use mathlib.Core.Bool.{Bool, true, false}
 use native.Mathlib.Omega.{arith}
 use lib.ListN.{length}
+use lib.Dec.{T}
 use Rattle.priority.specs.declared.Found.{Found}
 use Rattle.priority.specs.declared.Found.the-variants.{At, Nothing}
 use Rattle.priority.specs.Order.{Distinct, Rising}
@@ -12,12 +14,14 @@ use Rattle.priority.specs.Levels.{rising-few}
 use Rattle.script.specs.declared.Event.{Event}
 use Rattle.script.specs.declared.Event.the-variants as event
 use Rattle.rules.specs.declared.Chip.{Chip}
-use Rattle.rules.specs.Chip.{exceptionCount}
+use Rattle.rules.specs.Chip.{fits, exceptionCount}
 use Rattle.rules.specs.Model.{Model, Answer, refuse, fresh, stack}
 use Rattle.rules.specs.Priorities.{groupNumber, execution}
 use Rattle.rules.specs.Sound.{Sound}
 use Rattle.rules.specs.Nesting.{chosen, enter, entryAt}
 use Rattle.rules.specs.Step.{stepOf, answersOf, runOf}
+use Rattle.rules.specs.PriorityBits.{misfit-first}
+use Rattle.bools.specs.Tests.{is-true}
 use Rattle.demand3.specs.Demand3.{Calls, stop, call, moved, ledger, Steady, Claim, Eligible, Best, Entering, Demand3}
 use Rattle.demand3.proofs.Parts.{nested-fits, bytes-kept}
 use Rattle.demand3.proofs.Check.{step-sound}
@@ -30,11 +34,11 @@ record Along (c : Chip) (m t : Model) (es : List Event) (rs : List Answer) (r : 
   recorded : ledger r es rs ≡ stack t
   rising : Steady m rs → Rising (groupNumber m) (stack m) → Rising (groupNumber t) (stack t)
 
-along : {c : Chip} {m t : Model} {es : List Event} {rs : List Answer} → Calls c m es rs t → (r : List ℕ) → r ≡ stack m → Sound c m → Along c m t es rs r
-along stop r e h = record { answered = refl; left = refl; sound = h; recorded = e; rising = λ _ x. x }
-along {c} {m} {t} (call {e = x} {a = a} {es = es} {rs = rs} q k) r e h =
-    let o : Step c m x a = subst (Step c m x) (sym (q ∙ step-sound h x)) (act-ok h x) in
-    let rest = along k (moved x a r) (ap (moved x a) e ∙ o .recorded) (o .sound) in
+along : {c : Chip} {m t : Model} {es : List Event} {rs : List Answer} → T (fits c) → Calls c m es rs t → (r : List ℕ) → r ≡ stack m → Sound c m → Along c m t es rs r
+along f stop r e h = record { answered = refl; left = refl; sound = h; recorded = e; rising = λ _ x. x }
+along {c} {m} {t} f (call {e = x} {a = a} {es = es} {rs = rs} q k) r e h =
+    let o : Step c m x a = subst (Step c m x) (sym (q ∙ step-sound f h x)) (act-ok h x) in
+    let rest = along f k (moved x a r) (ap (moved x a) e ∙ o .recorded) (o .sound) in
     record {
       answered = subst (λ y. a ∷ rs ≡ y ∷ answersOf c (y .next) es) q (ap (λ (l : List Answer). a ∷ l) (rest .answered));
       left = subst (λ y. t ≡ runOf c (y .next) es) q (rest .left);
@@ -43,9 +47,9 @@ along {c} {m} {t} (call {e = x} {a = a} {es = es} {rs = rs} q k) r e h =
       rising = λ u g. rest .rising (u .1) (o .rising (u .0) g);
     }
 
-pub calls : (c : Chip) (es : List Event) (rs : List Answer) (t : Model) → Calls c (fresh c) es rs t → Claim c es rs t
+pub calls : (c : Chip) → T (fits c) → (es : List Event) (rs : List Answer) (t : Model) → Calls c (fresh c) es rs t → Claim c es rs t
 unfolding fresh
-calls c es rs t k =
+calls c f es rs t k =
     record {
       answered = a .answered;
       left = a .left;
@@ -59,12 +63,38 @@ calls c es rs t k =
     }
   where
     a : Along c (fresh c) t es rs []
-    a = along k [] refl (sound-fresh c)
+    a = along f k [] refl (sound-fresh c)
 
     up : Steady (fresh c) rs → Rising (groupNumber t) (ledger [] es rs)
     up u = subst (Rising (groupNumber t)) (sym (a .recorded)) (a .rising u tt)
 
--- ---- entry, in every sound model
+-- ---- how many are nested on any chip: where it does not fit, nothing is entered
+
+moved-still : (m : Model) (e : Event) (r : List ℕ) → moved e (refuse 17 m) r ≡ r
+moved-still m event.Entry r = refl
+moved-still m (event.Return v) r = refl
+moved-still m (event.Read w x) r = refl
+moved-still m (event.Write w x v) r = refl
+moved-still m (event.Line n l) r = refl
+moved-still m event.Nmi r = refl
+moved-still m event.Tick r = refl
+moved-still m (event.Fault b x) r = refl
+moved-still m event.Svc r = refl
+moved-still m (event.Special k v) r = refl
+moved-still m (event.Access k w x) r = refl
+
+ledger-still : {c : Chip} {m t : Model} {es : List Event} {rs : List Answer} → fits c ≡ false → Calls c m es rs t → (r : List ℕ) → ledger r es rs ≡ r
+ledger-still f stop r = refl
+ledger-still {c} {m} f (call {e = e} {a = a} q k) r = ledger-still f k (moved e a r) ∙ ap (λ (x : Answer). moved e x r) (q ∙ misfit-first c m e f) ∙ moved-still m e r
+
+pub most-nested : (c : Chip) (es : List Event) (rs : List Answer) (t : Model) → Calls c (fresh c) es rs t → length (ledger [] es rs) ≤ exceptionCount c
+most-nested c es rs t k = go (fits c) refl
+  where
+    go : (b : Bool) → fits c ≡ b → length (ledger [] es rs) ≤ exceptionCount c
+    go true f = calls c (is-true f) es rs t k .most
+    go false f = rw (ledger-still f k []) (omega arith)
+
+-- ---- entry, in every sound model of a chip that fits
 
 module _ (m : Model) where
   abbrev Able : ℕ → Type 0
@@ -90,9 +120,9 @@ module _ (m : Model) where
       apart : enter m (At n) ≡ refuse 8 m → ⊥
       apart q = let z : _≡_ {A = ℕ} 0 8 = ap (λ (a : Answer). a .refusal) q in omega arith
 
-pub entries : (c : Chip) (m : Model) → Sound c m → Entering m (stepOf c m event.Entry)
+pub entries : (c : Chip) → T (fits c) → (m : Model) → Sound c m → Entering m (stepOf c m event.Entry)
 unfolding entryAt
-entries c m h = subst (Entering m) (sym (step-sound h event.Entry)) (enter-entering m (chosen m) refl)
+entries c f m h = subst (Entering m) (sym (step-sound f h event.Entry)) (enter-entering m (chosen m) refl)
 
-pub demand3 : (c : Chip) → Demand3 c
-demand3 c = record { calls = calls c; entries = entries c }
+pub demand3 : (c : Chip) → T (fits c) → Demand3 c
+demand3 c f = record { calls = calls c f; entries = entries c f }

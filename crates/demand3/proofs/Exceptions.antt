@@ -68,5 +68,5 @@ module _ (c : Chip) (n : ℕ) where
       go (inl h) = Memᴰ·append-left (lineList (c .lines)) (isIn-mem n systemExceptions h)
       go (inr h) = let p = line-bounds h in Memᴰ·append-right systemExceptions (lineList-mem (c .lines) n (p .0) (p .1))
 
-pub fits : (c : Chip) (xs : List ℕ) → Distinct xs → ((n : ℕ) → List·Memᴰ n xs → T (exists c n)) → length xs ≤ exceptionCount c
-fits c xs d h = rw (everyone-length c) at (pigeonhole xs (everyone c) d (λ n m. exists-mem c n (h n m)))
+pub few-exceptions : (c : Chip) (xs : List ℕ) → Distinct xs → ((n : ℕ) → List·Memᴰ n xs → T (exists c n)) → length xs ≤ exceptionCount c
+few-exceptions c xs d h = rw (everyone-length c) at (pigeonhole xs (everyone c) d (λ n m. exists-mem c n (h n m)))

@@ -26,7 +26,7 @@ use Rattle.rules.specs.Events.{pend}
 use Rattle.rules.specs.Nesting.{chosen, entered, returnedMasks, repended, returned}
 use Rattle.demand3.specs.Demand3.{dropTop, SamePriorities}
 use Rattle.rules.specs.Laws.{line-stands}
-use Rattle.demand3.proofs.Exceptions.{stands-below, fits}
+use Rattle.demand3.proofs.Exceptions.{stands-below, few-exceptions}
 use Rattle.demand3.proofs.Parts.{flags-set, down-length, down-push, down-top, down-pop, down-place, place-down, places-push, places-pop, nested-push, nested-pop}
 use Rattle.demand3.proofs.Check.{depth-fits}
 use Rattle.demand3.proofs.Quiet.{stay, pend-quiet, kept-core}
@@ -61,7 +61,7 @@ module _ {c : Chip} {m : Model} (h : Sound c m) where
 
     pub room : m .core .depth < exceptionCount c
     room =
-        let f = fits c (n ∷ stack m) (pushed .distinct) member in
+        let f = few-exceptions c (n ∷ stack m) (pushed .distinct) member in
         let l = down-length (m .nest) (m .core .depth) in
         omega arith
       where

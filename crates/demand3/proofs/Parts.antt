@@ -25,7 +25,7 @@ use Rattle.rules.specs.Model.{down, top}
 use Rattle.rules.specs.Sound.{Flags, PriorityBytes, Nested, Places}
 use Rattle.demand3.specs.Demand3.{dropTop}
 use Rattle.rules.specs.Laws.{is-line, line-stands}
-use Rattle.demand3.proofs.Exceptions.{fits}
+use Rattle.demand3.proofs.Exceptions.{few-exceptions}
 
 pub getD-fresh {ℓ} : {A : Type ℓ} (k n : ℕ) (a : A) → getD (replicate k a) n a ≡ a
 getD-fresh zero n a = refl
@@ -192,7 +192,7 @@ nested-pop active n xs h =
     pile m (inr p) = rest m (p .0) (List·Memᴰ·cases-cons (h .stacked m (p .1)))
 
 pub nested-fits : (c : Chip) (active : List Bool) (xs : List ℕ) → Flags c Exception active → Nested active xs → length xs ≤ exceptionCount c
-nested-fits c active xs f h = fits c xs (h .distinct) (λ n m. f .only n (h .shown n m))
+nested-fits c active xs f h = few-exceptions c xs (h .distinct) (λ n m. f .only n (h .shown n m))
 
 pub rising-drop : (key : ℕ → ℤ) (xs : List ℕ) → Rising key xs → Rising key (dropTop xs)
 rising-drop key [] r = r

@@ -17,17 +17,17 @@ use Rattle.systick.specs.Laws as timer
 use Rattle.mpu.specs.Laws as mpu
 use Rattle.rules.specs.declared.Chip.{Chip}
 use Rattle.rules.specs.declared.Place.the-variants.{Exception, Enable, Line}
-use Rattle.rules.specs.Chip.{flagCount}
+use Rattle.rules.specs.Chip.{fits, flagCount}
 use Rattle.rules.specs.Model.{Model, Answer, stack, fresh}
 use Rattle.rules.specs.Priorities.{groupNumber}
 use Rattle.rules.specs.SystemBlock.{keptVtable}
 use Rattle.rules.specs.Sound.{Sound}
 use Rattle.rules.specs.Nesting.{chosen, enter, entryAt, entryCall, linkFits, returned, returnCall}
 use Rattle.rules.specs.Access.{fitsAccess, accessAt, accessCall}
-use Rattle.rules.specs.Step.{actOf, stepOf}
+use Rattle.rules.specs.Step.{actOf, admitted, stepOf}
 use Rattle.demand3.specs.Demand3.{moved, SamePriorities}
 use Rattle.demand3.proofs.Parts.{getD-fresh, flags-fresh, bytes-fresh, kept-byte-zero, places-fresh, rising-drop}
-use Rattle.demand3.proofs.Check.{step-sound}
+use Rattle.demand3.proofs.Check.{guard-passes}
 use Rattle.demand3.proofs.Quiet.{Quiet, stay}
 use Rattle.demand3.proofs.Events.{line-quiet, nmi-quiet, tick-quiet, fault-quiet, svc-quiet, special-quiet}
 use Rattle.demand3.proofs.Registers.{read-call-quiet, write-call-quiet}
@@ -95,8 +95,13 @@ module _ {c : Chip} {m : Model} (h : Sound c m) where
   pub act-sound : (e : Event) → Sound c (actOf c m e .next)
   act-sound e = act-ok e .sound
 
+  -- on every chip: where it does not fit, nothing moves
   pub step-keeps : (e : Event) → Sound c (stepOf c m e .next)
-  step-keeps e = subst (λ a. Sound c (a .next)) (sym (step-sound h e)) (act-sound e)
+  unfolding admitted
+  step-keeps e =
+      by-cases (λ (a : Answer). Sound c (a .next)) (fits c)
+      (λ _. subst (λ (a : Answer). Sound c (a .next)) (sym (guard-passes h (actOf c m e))) (act-sound e))
+      (λ _. h)
 
 fresh-vtable : (c : Chip) → keptVtable c 0 ≡ 0
 fresh-vtable c = by-cases (λ (l : ℕ). kept 29 l 0 ≡ 0) (leb (flagCount c) 128) (λ _. refl) (λ _. refl)

@@ -7,6 +7,7 @@ use rules::Setup;
 pub fn run() {
     let s = State::fresh(Setup {
         part: Part::Lines240,
+        bits: 3,
     });
     let enabled = s.write(4, 0xe000e11c, 0x8000);
     let s = enabled.state;

@@ -6,11 +6,11 @@ use lib.ListN.{getD}
 use lib.Dec.{eqb}
 use lib.IntN.{ℤ, pos, negsuc}
 
--- "The rest have a byte; bits 7:5 are kept, the others read 0": the upper w bits of a byte, all of it where w is 8 or more
+-- "The rest have a byte; bits 7:5 are kept, the others read 0"; document 02, E7: "Let a chip keep the top w bits". All of the byte where w is 8 or more.
 abbrev pub keptByte : ℕ → ℕ → ℕ
 keptByte w b = b % 256 / 2 ^ (8 - w) * 2 ^ (8 - w)
 
--- "the group number of a byte is the byte with bits p:0 cleared"
+-- "the group number of a byte is the byte with bits p:0 cleared": bit 0 is never part of it, however many bits are kept
 abbrev pub groupOf : ℕ → ℕ → ℕ
 groupOf p b = b / 2 ^ (p + 1) * 2 ^ (p + 1)
 

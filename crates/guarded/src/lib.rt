@@ -1,8 +1,8 @@
-// Any event on any lent lists, for every chip: a state that is not sound is refused by 16.
+// Any event on any lent lists, for every chip: one that does not fit is refused by 17, then a state that is not sound by 16.
 ghost use mathlib.Core.Path.{_≡_};
 ghost use Rattle.rules.specs.Lent.{modelOf, answer};
 ghost use Rattle.rules.specs.Step.{stepOf};
-ghost use Rattle.guarded.specs.Fits.{Fits};
+ghost use Rattle.guarded.specs.FewLines.{FewLines};
 use rules::Chip;
 use rules::Core;
 use rules::Outcome;
@@ -19,9 +19,12 @@ pub fn step(
     core: Core,
     event: Event,
 ) -> Outcome
-    requires { ⌜ Fits chip ⌝ }
+    requires { ⌜ FewLines chip ⌝ }
     ensures { λ r. ⌜ answer r (modelOf (now (pending .exit)) (now (active .exit)) (now (enabled .exit)) (now (level .exit)) (now (priority .exit)) (now (nest .exit)) core) ≡ stepOf chip (modelOf (now (pending .entry)) (now (active .entry)) (now (enabled .entry)) (now (level .entry)) (now (priority .entry)) (now (nest .entry)) core) event ⌝ }
 {
+    if !chip.fits() {
+        return parts::refused(core, 17);
+    }
     if !sound_state::is_sound(chip, pending, active, enabled, level, priority, nest, core) {
         return parts::refused(core, 16);
     }

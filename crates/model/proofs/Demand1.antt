@@ -1,7 +1,8 @@
 -- The rules' theorem at the 55-line chip: a reply has the fields of the answer that it renames.
-use mathlib.Core.Path.{_≡_, ap, sym, subst}
+use mathlib.Core.Path.{_≡_, refl, ap, sym, subst, _∙_}
 use mathlib.Core.Logic.{_⊎_, inl, inr, _↔_}
 use mathlib.Core.Bool.{false}
+use Rattle.bools.specs.Tests.{is-false}
 use Rattle.script.specs.declared.Event.{Event}
 use Rattle.rules.specs.Chip.{chip55}
 use Rattle.rules.specs.Model.{Answer}
@@ -28,5 +29,8 @@ pub code-demand1 : CodeDemand1
 code-demand1 =
     record {
       events = λ s e r q. subst (λ (x : Reply). (x .refusal ≡ 0) ⊎ Refused e s x) (sym q) (replied e s (demand1 chip55 .events (model s) e));
-      unsound = λ s e r q. subst (λ (x : Reply). (x .refusal ≡ 16) ↔ (isSound chip55 (model s) ≡ false)) (sym q) (demand1 chip55 .unsound (model s) e);
+      fitting = λ s e r q w. is-false (demand1 chip55 .misfit (model s) e .0 (ap (λ (x : Reply). x .refusal) (sym q) ∙ w)) tt;
+      unsound = λ s e r q.
+          let u = demand1 chip55 .unsound (model s) e in
+          subst (λ (x : Reply). (x .refusal ≡ 16) ↔ (isSound chip55 (model s) ≡ false)) (sym q) (λ w. u .0 w .1, λ w. u .1 (refl, w));
     }

@@ -18,6 +18,6 @@ called (call e k) = claim.call (ap answer e) (called k)
 pub code-demand3 : CodeDemand3
 code-demand3 =
     record {
-      calls = λ es rs t k. demand3 chip55 .calls es (map answer rs) (model t) (called k);
-      entries = λ s r h e. subst (Entering (model s)) (sym (ap answer e)) (demand3 chip55 .entries (model s) h);
+      calls = λ es rs t k. demand3 chip55 tt .calls es (map answer rs) (model t) (called k);
+      entries = λ s r h e. subst (Entering (model s)) (sym (ap answer e)) (demand3 chip55 tt .entries (model s) h);
     }

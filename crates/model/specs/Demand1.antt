@@ -25,5 +25,7 @@ pub record Refused (e : Event) (s : State) (r : Reply) : Type 0 where
 -- entry, return_, access.
 pub record CodeDemand1 : Type 0 where
   pub events : (s : State) (e : Event) (r : Reply) → r ≡ reply (stepOf chip55 (model s) e) → (r .refusal ≡ 0) ⊎ Refused e s r
+  -- document 02, E7: "17, a chip setup with w outside 3 to 8": this chip keeps three, so never
+  pub fitting : (s : State) (e : Event) (r : Reply) → r ≡ reply (stepOf chip55 (model s) e) → r .refusal ≡ 17 → ⊥
   -- "16: state not sound": in exactly that case
   pub unsound : (s : State) (e : Event) (r : Reply) → r ≡ reply (stepOf chip55 (model s) e) → (r .refusal ≡ 16) ↔ (isSound chip55 (model s) ≡ false)

@@ -2,15 +2,16 @@
 use mathlib.Core.Path.{_≡_, refl, sym, _∙_, subst}
 use mathlib.Core.List.{List, [], _∷_, map}
 use native.Mathlib.Omega.{arith}
+use lib.Dec.{T}
 use Rattle.script.specs.declared.Event.{Event}
 use Rattle.rules.specs.declared.Part.the-variants.{Lines55, Lines240}
 use Rattle.rules.specs.declared.Setup.{Setup}
-use Rattle.rules.specs.Chip.{chip55, chip240, chipOf}
+use Rattle.rules.specs.Chip.{chip55, chip240, chipOf, fits}
 use Rattle.rules.specs.Model.{Answer, fresh}
 use Rattle.rules.specs.Step.{answersOf}
 use Rattle.old_scripts.specs.Alike.{Agreeing}
 use Rattle.old_scripts.specs.OldScripts.{Grown}
-use Rattle.old_scripts.proofs.OldScripts.{old-scripts}
+use Rattle.old_scripts.proofs.OldScripts.{fits-too, old-scripts}
 use Rattle.any_chip.specs.declared.State.{State}
 use Rattle.any_chip.specs.declared.Reply.{Reply}
 use Rattle.any_chip.specs.View.{model, state}
@@ -20,8 +21,8 @@ use Rattle.any_run.proofs.Joined as any
 use Rattle.run.proofs.Joined as bench
 use Rattle.old_replies.specs.OldReplies.{SameReplies, OldReplies, AsBench}
 
-answered : (s : Setup) {es : List Event} {rs : List Reply} {a : State} → Called (state s (fresh (chipOf s))) es rs a → map answer rs ≡ answersOf (chipOf s) (fresh (chipOf s)) es
-answered s {es} {rs} {a} k = code-demand3 s .calls es rs a k .answered
+answered : (s : Setup) → T (fits (chipOf s)) → {es : List Event} {rs : List Reply} {a : State} → Called (state s (fresh (chipOf s))) es rs a → map answer rs ≡ answersOf (chipOf s) (fresh (chipOf s)) es
+answered s f {es} {rs} {a} k = code-demand3 s f .calls es rs a k .answered
 
 same-replies : (rs us : List Reply) → Agreeing (map answer rs) (map answer us) → SameReplies rs us
 same-replies [] [] h = tt
@@ -36,8 +37,8 @@ old-replies s t g =
     record {
       replies = λ es rs us a b o k l.
           same-replies rs us
-          (subst (λ (xs : List Answer). Agreeing xs (map answer us)) (sym (answered s k))
-          (subst (Agreeing (answersOf (chipOf s) (fresh (chipOf s)) es)) (sym (answered t l)) (old-scripts g .answers es o)));
+          (subst (λ (xs : List Answer). Agreeing xs (map answer us)) (sym (answered s (g .fit) k))
+          (subst (Agreeing (answersOf (chipOf s) (fresh (chipOf s)) es)) (sym (answered t (fits-too g) l)) (old-scripts g .answers es o)));
       runs = λ script small o outs here others there p q k l e f.
           any.code-joined s script small .whole outs here p k e ∙ old-scripts g .text script o ∙ sym (any.code-joined t script small .whole others there q l f);
     }
@@ -49,10 +50,10 @@ as-bench t g script small o outs here others there p q k l e f =
 -- ---- "An old script for 55 lines .. on the new chip"
 
 grown : Grown chip55 chip240
-grown = record { lines = omega arith; bits = refl }
+grown = record { lines = omega arith; bits = refl; fit = tt }
 
-pub old-replies-55-240 : OldReplies (record { part = Lines55 }) (record { part = Lines240 })
+pub old-replies-55-240 : OldReplies (record { part = Lines55; bits = 3 }) (record { part = Lines240; bits = 3 })
 old-replies-55-240 = old-replies _ _ grown
 
-pub as-bench-240 : AsBench (record { part = Lines240 })
+pub as-bench-240 : AsBench (record { part = Lines240; bits = 3 })
 as-bench-240 = as-bench _ grown

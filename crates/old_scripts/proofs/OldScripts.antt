@@ -3,20 +3,21 @@ use Prim.Native.Nat.{ℕ, suc}
 use mathlib.Core.Path.{_≡_, refl, sym, ap, ap₂, subst}
 use mathlib.Core.List.{List, [], _∷_, _++_}
 use native.Mathlib.Omega.{arith}
-use lib.Dec.{T, ltb→lt}
-use Rattle.bools.specs.Tests.{both}
+use mathlib.Core.Bool.{_&&_}
+use lib.Dec.{T, leb, ltb→lt}
+use Rattle.bools.specs.Tests.{true-is, both}
 use Rattle.script.specs.declared.Event.{Event}
 use Rattle.script.specs.declared.Event.the-variants as event
 use Rattle.script.specs.Event.{accessNumber}
 use Rattle.script.specs.Script.{scriptOf}
 use Rattle.rules.specs.declared.Chip.{Chip}
-use Rattle.rules.specs.Chip.{flagCount, exceptionCount, chip55, chip240}
+use Rattle.rules.specs.Chip.{flagCount, exceptionCount, chip55, chip240, fits}
 use Rattle.rules.specs.Model.{Model, Answer, fresh, top}
 use Rattle.rules.specs.Sound.{Sound}
 use Rattle.rules.specs.Step.{actOf, stepOf, answersOf}
 use Rattle.demand3.proofs.Check.{step-sound}
 use Rattle.demand3.proofs.Steps.{step-keeps, sound-fresh}
-use Rattle.text.specs.Text.{lineOf, linesOf, endText, scriptText, textOf}
+use Rattle.text.specs.Text.{lineOf, linesOf, endText, scriptText, admittedText, textOf}
 use Rattle.old_scripts.specs.Alike.{Alike, Agree, Agreeing}
 use Rattle.old_scripts.specs.OldScripts.{avoids, namesOwn, isOld, areOld, Grown, OldScripts}
 use Rattle.old_scripts.proofs.Lists.{same-fresh}
@@ -39,6 +40,9 @@ fresh-alike c d =
     }
 
 module _ {c d : Chip} (g : Grown c d) where
+  pub fits-too : T (fits d)
+  fits-too = subst (λ (w : ℕ). T (leb 3 w && leb w 8)) (g .bits) (g .fit)
+
   act-meets : {m t : Model} → Sound c m → Sound d t → Alike m t → (e : Event) → T (isOld c d e) → Meets (actOf c m e) (actOf d t e)
   unfolding isOld
   act-meets h k a (event.Read w x) o = read-meets g h k a w x o
@@ -55,7 +59,7 @@ module _ {c d : Chip} (g : Grown c d) where
 
   step-meets : {m t : Model} → Sound c m → Sound d t → Alike m t → (e : Event) → T (isOld c d e) → Meets (stepOf c m e) (stepOf d t e)
   step-meets {m} {t} h k a e o =
-      subst (λ x. Meets x (stepOf d t e)) (sym (step-sound h e)) (subst (Meets (actOf c m e)) (sym (step-sound k e)) (act-meets h k a e o))
+      subst (λ x. Meets x (stepOf d t e)) (sym (step-sound (g .fit) h e)) (subst (Meets (actOf c m e)) (sym (step-sound fits-too k e)) (act-meets h k a e o))
 
   step-agrees : {m t : Model} → Sound c m → Sound d t → Alike m t → (e : Event) → T (isOld c d e) → Agree (stepOf c m e) (stepOf d t e)
   step-agrees h k a e o =
@@ -95,13 +99,18 @@ lines-same n (a ∷ xs) (b ∷ ys) s = ap₂ (λ (x y : List ℕ). x ++ y) (line
 -- ---- the claim
 
 pub old-scripts : {c d : Chip} → Grown c d → OldScripts c d
-unfolding textOf scriptText
+unfolding textOf admittedText scriptText
 old-scripts {c} {d} g =
-    record { answers = agree; text = λ bytes o. ap (λ (x : List ℕ). x ++ endText (scriptOf bytes .end)) (lines-same 1 _ _ (agree (scriptOf bytes .events) o)) }
+    record {
+      answers = agree;
+      text = λ bytes o.
+          rw (true-is (fits c) (g .fit), true-is (fits d) (fits-too g))
+          (ap (λ (x : List ℕ). x ++ endText (scriptOf bytes .end)) (lines-same 1 _ _ (agree (scriptOf bytes .events) o)));
+    }
   where
     agree : (es : List Event) → T (areOld c d es) → Agreeing (answersOf c (fresh c) es) (answersOf d (fresh d) es)
     agree es o = answers-agree g (sound-fresh c) (sound-fresh d) (fresh-alike c d) es o
 
 -- "An old script for 55 lines gives the same output lines on the new chip"
 pub old-scripts-55-240 : OldScripts chip55 chip240
-old-scripts-55-240 = old-scripts (record { lines = omega arith; bits = refl })
+old-scripts-55-240 = old-scripts (record { lines = omega arith; bits = refl; fit = tt })

@@ -11,7 +11,7 @@ use Rattle.script.specs.declared.Event.{Event}
 use Rattle.script.specs.declared.Event.the-variants as event
 use Rattle.script.specs.Script.{scriptOf}
 use Rattle.rules.specs.declared.Chip.{Chip}
-use Rattle.rules.specs.Chip.{chip55, chip240}
+use Rattle.rules.specs.Chip.{chip55, chip240, fits}
 use Rattle.rules.specs.Model.{fresh}
 use Rattle.rules.specs.Map.{flagWords, byteWords}
 use Rattle.rules.specs.Step.{answersOf}
@@ -111,10 +111,11 @@ areOld c d (e ∷ es) = isOld c d e && areOld c d es
 
 -- ---- the claim
 
--- d has the lines of c, and keeps the same bits of a priority byte
+-- d has the lines of c, and keeps the same bits of a priority byte, 3 to 8 of them
 pub record Grown (c d : Chip) : Type 0 where
   pub lines : c .lines ≤ d .lines
   pub bits : c .bits ≡ d .bits
+  pub fit : T (fits c)
 
 pub record OldScripts (c d : Chip) : Type 0 where
   -- events, each on what the last one left: every answer agrees

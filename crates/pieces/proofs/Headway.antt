@@ -14,18 +14,21 @@ use Rattle.decimal.specs.Written.{written, Puts}
 use Rattle.script.specs.declared.Event.{Event}
 use Rattle.script.specs.Script.{Script}
 use Rattle.numbers.specs.NumberLaws.{Bytes}
+use Rattle.bools.specs.Tests.{is-true, true-is}
 use Rattle.rules.specs.declared.Chip.{Chip}
+use Rattle.rules.specs.Chip.{fits}
 use Rattle.rules.specs.Model.{Model, Answer}
 use Rattle.rules.specs.Sound.{isSound, Sound}
 use Rattle.rules.specs.Step.{actOf, runOf}
+use Rattle.rules.specs.PriorityBits.{misfit-first}
 use Rattle.demand3.proofs.Check.{sound-of, step-sound}
 use Rattle.demand3.proofs.Steps.{act-sound}
-use Rattle.text.specs.Text.{lineOf, linesOf, scriptText}
+use Rattle.text.specs.Text.{lineOf, linesOf, scriptText, admittedText}
 use Rattle.pieces.specs.declared.Course.{Course}
-use Rattle.pieces.specs.Pieces.{scriptAt, isUsable, Usable, Piece, goneOn, pieceOf, courseOf, Ran, restText, restOf}
+use Rattle.pieces.specs.Pieces.{scriptAt, isUsable, Usable, Piece, goneOn, unadmitted, pieceOf, courseOf, Ran, restText, restOf}
 use Rattle.pieces.proofs.Laws.{script-long, One, View, over, one, view}
 use Rattle.pieces.proofs.Pieces.{prefixed, gone-full, gone-closed, gone-next}
-use Rattle.pieces.proofs.Promise.{usable-of, piece-ended, piece-long, piece-usable, piece-refused}
+use Rattle.pieces.proofs.Promise.{usable-of, piece-ended, piece-unadmitted, piece-long, piece-usable, piece-refused}
 
 -- ---- a call that goes on
 
@@ -46,26 +49,26 @@ pub record Gone (c : Chip) (script : List ℕ) (m : Model) (at events room : ℕ
   pub inside : at ≤ length script → q .at ≤ length script
   pub moves : lineRoom ≤ room → Moves (length script) at (q .ended) (q .at)
 
-module _ {c : Chip} {script : List ℕ} {m : Model} (s : Sound c m) (at events room : ℕ) where
+module _ {c : Chip} {script : List ℕ} {m : Model} (f : T (fits c)) (s : Sound c m) (at events room : ℕ) where
   gone-none : room < lineRoom → Gone c script m at events room (goneOn c script m at events room)
   gone-none h =
       rw (gone-full c script m at events room h)
       (record { told = refl; last = refl; sound = s; counted = λ k. k; ahead = omega arith; inside = λ k. k; moves = λ k. let z : ⊥ = omega arith in absurd z })
 
   gone-over : lineRoom ≤ room → scriptAt script at .events ≡ [] → Gone c script m at events room (goneOn c script m at events room)
-  unfolding restText scriptText linesOf lastOf
+  unfolding restText admittedText scriptText linesOf lastOf
   gone-over h n =
       rw (gone-closed c script m at events room n h)
-      (record { told = rw (n, append-nil); last = rw n; sound = s; counted = λ k. k; ahead = omega arith; inside = λ k. k; moves = λ _. inl refl })
+      (record { told = rw (true-is (fits c) f, n, append-nil); last = rw n; sound = s; counted = λ k. k; ahead = omega arith; inside = λ k. k; moves = λ _. inl refl })
 
   module _ (h : lineRoom ≤ room) (e : Event) (next : ℕ) (o : One script at e next) where
     rest-found : restText c script m at events ≡ lineOf (suc events) (actOf c m e) ++ restText c script (actOf c m e .next) next (suc events)
-    unfolding restText scriptText linesOf
-    rest-found = rw (o .rest, step-sound s e, append-assoc)
+    unfolding restText admittedText scriptText linesOf
+    rest-found = rw (true-is (fits c) f, o .rest, step-sound f s e, append-assoc)
 
     last-found : lastOf c script false (actOf c m e .next) next ≡ lastOf c script false m at
     unfolding lastOf
-    last-found = rw (o .rest) (ap (λ (a : Answer). runOf c (a .next) (scriptAt script next .events)) (sym (step-sound s e)))
+    last-found = rw (o .rest) (ap (λ (a : Answer). runOf c (a .next) (scriptAt script next .events)) (sym (step-sound f s e)))
 
     gone-one : (q : Piece) → (n : ℕ) → Gone c script (actOf c m e .next) next (suc events) n q → goneOn c script m at events room ≡ prefixed (lineOf (suc events) (actOf c m e)) q → Gone c script m at events room (goneOn c script m at events room)
     gone-one q n g d =
@@ -85,11 +88,11 @@ module _ {c : Chip} {script : List ℕ} {m : Model} (s : Sound c m) (at events r
 
   -- what stands at the offset decides
   gone-by : Bytes script → ((e : Event) (next : ℕ) → One script at e next → lineRoom ≤ room → Gone c script m at events room (goneOn c script m at events room)) → Gone c script m at events room (goneOn c script m at events room)
-  gone-by small f = fit (leb lineRoom room) refl
+  gone-by small first = fit (leb lineRoom room) refl
     where
       seen : lineRoom ≤ room → View script at → Gone c script m at events room (goneOn c script m at events room)
       seen h (over n) = gone-over h n
-      seen h (one e next o) = f e next o h
+      seen h (one e next o) = first e next o h
 
       fit : (b : Bool) → leb lineRoom room ≡ b → Gone c script m at events room (goneOn c script m at events room)
       fit false q = gone-none (leb-false lineRoom room q)
@@ -105,11 +108,11 @@ module _ {script : List ℕ} {at : ℕ} {e : Event} {next : ℕ} (o : One script
   events-after : (x : Event) (es : List Event) → scriptAt script at .events ≡ x ∷ es → scriptAt script next .events ≡ es
   events-after x es d = let f = event-first (x ∷ es) d in cc
 
-gone : {c : Chip} {script : List ℕ} → Bytes script → (es : List Event) {m : Model} (at events room : ℕ) → scriptAt script at .events ≡ es → Sound c m → Gone c script m at events room (goneOn c script m at events room)
-gone small [] at events room d s = gone-by s at events room small (λ e next o h. absurd (some-event o d))
-gone {c} {script} small (x ∷ es) {m} at events room d s =
-    gone-by s at events room small
-    (λ e next o h. gone-one s at events room h e next o _ _ (gone small es next (suc events) _ (events-after o x es d) (act-sound s e)) (gone-next c script m at events room e next o s h))
+gone : {c : Chip} {script : List ℕ} → T (fits c) → Bytes script → (es : List Event) {m : Model} (at events room : ℕ) → scriptAt script at .events ≡ es → Sound c m → Gone c script m at events room (goneOn c script m at events room)
+gone f small [] at events room d s = gone-by f s at events room small (λ e next o h. absurd (some-event o d))
+gone {c} {script} f small (x ∷ es) {m} at events room d s =
+    gone-by f s at events room small
+    (λ e next o h. gone-one f s at events room h e next o _ _ (gone f small es next (suc events) _ (events-after o x es d) (act-sound s e)) (gone-next c script m at events room e next o f s h))
 
 -- ---- a call
 
@@ -131,48 +134,81 @@ pub record Onward (c : Chip) (script : List ℕ) (m : Model) (p : Course) (t : M
   pub last : lastOf c script (r .ended) t (r .at) ≡ lastOf c script (p .ended) m (p .at)
   pub usable : Usable c t r
 
+-- on a chip that does not fit nothing moves
+run-still : (c : Chip) → fits c ≡ false → (m : Model) (es : List Event) → runOf c m es ≡ m
+run-still c f m [] = refl
+run-still c f m (e ∷ es) = ap (λ (a : Answer). runOf c (a .next) es) (misfit-first c m e f) ∙ run-still c f m es
+
 module _ {c : Chip} {script : List ℕ} (small : Bytes script) {m : Model} {p : Course} {old : List ℕ} {t : Model} {r : Course} {new : List ℕ} (n : Ran c script m p old t r new) where
-  module _ (u : Usable c m p) where
-    onward-piece : (b : Bool) → p .ended ≡ b → Onward c script m p (pieceOf c script m p (length old) .model) (courseOf (pieceOf c script m p (length old))) (pieceOf c script m p (length old) .text)
-    unfolding restOf
-    onward-piece true e = rw (piece-ended c script m p (length old) e) (record { told = rw e; last = rw e; usable = record { sound = u .sound; counted = u .counted } })
-    onward-piece false e =
-        let g = gone small (scriptAt script (p .at) .events) (p .at) (p .events) (length old) refl (u .sound) in
-        rw (piece-on e) (record { told = rw e (g .told); last = rw e (g .last); usable = record { sound = g .sound; counted = g .counted (u .counted) } })
+  abbrev room : ℕ
+  room = length old
+
+  abbrev piece : Piece
+  piece = pieceOf c script m p room
+
+  -- goes on, which is what a call does on a chip that fits where the script is too long or the course usable
+  module _ (e : p .ended ≡ false) (f : T (fits c)) where
+    piece-on : Usable c m p → piece ≡ goneOn c script m (p .at) (p .events) room
+    piece-on u = size (ltb 65536 (length script)) refl
       where
-        piece-on : p .ended ≡ false → pieceOf c script m p (length old) ≡ goneOn c script m (p .at) (p .events) (length old)
-        piece-on f = size (ltb 65536 (length script)) refl
-          where
-            size : (b : Bool) → ltb 65536 (length script) ≡ b → pieceOf c script m p (length old) ≡ goneOn c script m (p .at) (p .events) (length old)
-            size true q = piece-long c script m p (length old) f (ltb-true 65536 (length script) q)
-            size false q = piece-usable c script m p (length old) f (ltb-false 65536 (length script) q) (usable-true c m p u)
+        size : (b : Bool) → ltb 65536 (length script) ≡ b → piece ≡ goneOn c script m (p .at) (p .events) room
+        size true q = piece-long c script m p room e f (ltb-true 65536 (length script) q)
+        size false q = piece-usable c script m p room e f (ltb-false 65536 (length script) q) (usable-true c m p u)
+
+  module _ (u : Usable c m p) where
+    abbrev Next : Piece → Type 0
+    Next q = Onward c script m p (q .model) (courseOf q) (q .text)
+
+    onward-unadmitted : p .ended ≡ false → fits c ≡ false → (b : Bool) → leb lineRoom room ≡ b → Next (unadmitted m p room)
+    unfolding restOf restText admittedText lastOf
+    onward-unadmitted e f true q =
+        rw q (record { told = rw (e, f, append-nil); last = rw e (sym (run-still c f m (scriptAt script (p .at) .events))); usable = record { sound = u .sound; counted = u .counted } })
+    onward-unadmitted e f false q =
+        rw q (record { told = rw e; last = rw e; usable = record { sound = u .sound; counted = u .counted } })
+
+    onward-fits : p .ended ≡ false → (b : Bool) → fits c ≡ b → Next piece
+    unfolding restOf
+    onward-fits e false f = rw (piece-unadmitted c script m p room e f) (onward-unadmitted e f (leb lineRoom room) refl)
+    onward-fits e true f =
+        let t = is-true f in
+        let g = gone t small (scriptAt script (p .at) .events) (p .at) (p .events) room refl (u .sound) in
+        rw (piece-on e t u) (record { told = rw e (g .told); last = rw e (g .last); usable = record { sound = g .sound; counted = g .counted (u .counted) } })
+
+    onward-piece : (b : Bool) → p .ended ≡ b → Next piece
+    unfolding restOf
+    onward-piece true e = rw (piece-ended c script m p room e) (record { told = rw e; last = rw e; usable = record { sound = u .sound; counted = u .counted } })
+    onward-piece false e = onward-fits e (fits c) refl
 
     pub onward : Onward c script m p t r (take (r .wrote) new)
     onward = rw (puts-text (n .bytes), n .model, n .course) (onward-piece (p .ended) refl)
 
   -- a script that has ended stays so
   pub ended-stays : p .ended ≡ true → r .ended ≡ true
-  ended-stays e = rw (n .course, piece-ended c script m p (length old) e)
+  ended-stays e = rw (n .course, piece-ended c script m p room e)
 
-  pub headway : lineRoom ≤ length old → Moves (length script) (p .at) (r .ended) (r .at)
+  pub headway : lineRoom ≤ room → Moves (length script) (p .at) (r .ended) (r .at)
   headway h = rw (n .course) (ways (p .ended) refl)
     where
       Way : Piece → Type 0
       Way q = Moves (length script) (p .at) (q .ended) (q .at)
 
-      tests : (b : Bool) → isUsable c m p ≡ b → p .ended ≡ false → length script ≤ 65536 → Way (pieceOf c script m p (length old))
-      tests true u e k = rw (piece-usable c script m p (length old) e k u) (gone small (scriptAt script (p .at) .events) (p .at) (p .events) (length old) refl (usable-of c m p u .sound) .moves h)
-      tests false u e k = rw (piece-refused c script m p (length old) e k u) (inl refl)
+      tests : (b : Bool) → isUsable c m p ≡ b → p .ended ≡ false → T (fits c) → length script ≤ 65536 → Way piece
+      tests true u e f k = rw (piece-usable c script m p room e f k u) (gone f small (scriptAt script (p .at) .events) (p .at) (p .events) room refl (usable-of c m p u .sound) .moves h)
+      tests false u e f k = rw (piece-refused c script m p room e f k u) (inl refl)
 
-      sizes : (b : Bool) → ltb 65536 (length script) ≡ b → p .ended ≡ false → Way (pieceOf c script m p (length old))
-      sizes true q e =
+      sizes : (b : Bool) → ltb 65536 (length script) ≡ b → p .ended ≡ false → T (fits c) → Way piece
+      sizes true q e f =
           let l = ltb-true 65536 (length script) q in
-          rw (piece-long c script m p (length old) e l, gone-closed c script m (p .at) (p .events) (length old) (rw (script-long script (p .at) l)) h) (inl refl)
-      sizes false q e = tests (isUsable c m p) refl e (ltb-false 65536 (length script) q)
+          rw (piece-long c script m p room e f l, gone-closed c script m (p .at) (p .events) room (rw (script-long script (p .at) l)) h) (inl refl)
+      sizes false q e f = tests (isUsable c m p) refl e f (ltb-false 65536 (length script) q)
 
-      ways : (b : Bool) → p .ended ≡ b → Way (pieceOf c script m p (length old))
-      ways true e = rw (piece-ended c script m p (length old) e) (inl refl)
-      ways false e = sizes (ltb 65536 (length script)) refl e
+      fitting : (b : Bool) → fits c ≡ b → p .ended ≡ false → Way piece
+      fitting true f e = sizes (ltb 65536 (length script)) refl e (is-true f)
+      fitting false f e = rw (piece-unadmitted c script m p room e f) (inl (le-leb lineRoom room h))
+
+      ways : (b : Bool) → p .ended ≡ b → Way piece
+      ways true e = rw (piece-ended c script m p room e) (inl refl)
+      ways false e = fitting (fits c) refl e
 
 -- ---- a caller's loop
 

@@ -12,7 +12,7 @@ use Rattle.rules.specs.declared.Chip.{Chip}
 use Rattle.rules.specs.Model.{Model, fresh}
 use Rattle.rules.specs.Step.{runOf}
 use Rattle.demand3.proofs.Steps.{sound-fresh}
-use Rattle.text.specs.Text.{textOf}
+use Rattle.text.specs.Text.{admittedText, textOf}
 use Rattle.pieces.specs.declared.Course.{Course}
 use Rattle.pieces.specs.Pieces.{scriptAt, started, Usable, restText, restOf}
 use Rattle.pieces.specs.Joined.{Resumed, stop, call, joined, Roomy, Joined}
@@ -22,7 +22,7 @@ pub started-usable : (c : Chip) → Usable c (fresh c) started
 started-usable c = record { sound = sound-fresh c; counted = omega arith }
 
 pub started-rest : (c : Chip) (script : List ℕ) → restOf c script (fresh c) started ≡ textOf c script
-unfolding textOf restOf restText scriptAt scriptOf
+unfolding textOf restOf restText admittedText scriptAt scriptOf
 started-rest c script = refl
 
 started-last : (c : Chip) (script : List ℕ) → lastOf c script (started .ended) (fresh c) (started .at) ≡ runOf c (fresh c) (scriptOf script .events)

@@ -6,11 +6,13 @@ use native.Mathlib.Nat.{sub-zero}
 use native.Mathlib.Numerals.{add-one}
 use native.Mathlib.Omega.{arith}
 use lib.ListN.{length}
+use lib.Dec.{T}
 use lib.IntN.{ℤ}
 use Rattle.decimal.specs.Decimal.{lineText, lineRoom}
 use Rattle.decimal.specs.Written.{written-nil, written-length, Puts, puts-append}
 use Rattle.script.specs.declared.Event.{Event}
 use Rattle.rules.specs.declared.Chip.{Chip}
+use Rattle.rules.specs.Chip.{fits}
 use Rattle.rules.specs.Model.{Model, Answer, stack, top}
 use Rattle.rules.specs.Priorities.{execution}
 use Rattle.rules.specs.Sound.{Sound}
@@ -50,16 +52,16 @@ going-first c script m at events old s h = record {
 
 module _ {c : Chip} {script : List ℕ} {m₀ : Model} {at₀ events₀ : ℕ} {old : List ℕ} {m : Model} {at events wrote : ℕ} {new : List ℕ} (g : Going c script m₀ at₀ events₀ old m at events wrote new) where
   -- one event: a is its answer, t and x the top and the execution priority after it
-  pub going-next : (e : Event) (next : ℕ) → One script at e next → (a : Answer) → a ≡ actOf c m e → (t : ℕ) → t ≡ top (stack (a .next)) → (x : ℤ) → x ≡ execution (a .next) → (end : ℕ) (newer : List ℕ) → wrote + lineRoom ≤ length new → Puts wrote (lineText (events + 1) (a .refusal) (a .value) t x) new end newer → end ≤ wrote + lineRoom → Going c script m₀ at₀ events₀ old (a .next) next (events + 1) end newer
+  pub going-next : T (fits c) → (e : Event) (next : ℕ) → One script at e next → (a : Answer) → a ≡ actOf c m e → (t : ℕ) → t ≡ top (stack (a .next)) → (x : ℤ) → x ≡ execution (a .next) → (end : ℕ) (newer : List ℕ) → wrote + lineRoom ≤ length new → Puts wrote (lineText (events + 1) (a .refusal) (a .value) t x) new end newer → end ≤ wrote + lineRoom → Going c script m₀ at₀ events₀ old (a .next) next (events + 1) end newer
   unfolding lineOf
-  going-next e next o a q t tq x xq end newer room w h =
+  going-next fit e next o a q t tq x xq end newer room w h =
       let z = g .sized in
       let n = w .next-is in
       let b = g .counted in
       let f = o .forward in
       let line = lineText (events + 1) (a .refusal) (a .value) t x in
       let step : goneOn c script m at events (length old - wrote) ≡ prefixed line (goneOn c script (a .next) next (events + 1) (length old - wrote - length line))
-      = rw (tq, xq, q, add-one) (gone-next c script m at events (length old - wrote) e next o (g .sound) (omega arith)) in
+      = rw (tq, xq, q, add-one) (gone-next c script m at events (length old - wrote) e next o fit (g .sound) (omega arith)) in
       let left : length old - wrote - length line ≡ length old - end = omega arith in
       record {
         lines = g .lines ++ line;

@@ -5,10 +5,12 @@ use mathlib.Core.List.{List, [], _∷_, _++_, append-assoc}
 use mathlib.Core.Bool.{Bool, true, false}
 use native.Mathlib.Nat.{add-zero, add-suc, suc-add}
 use lib.ListN.{length}
+use lib.Dec.{T}
 use borrow.Author.Tests.{le-leb, lt-leb}
 use Rattle.decimal.specs.Decimal.{lineRoom}
 use Rattle.script.specs.declared.Event.{Event}
 use Rattle.rules.specs.declared.Chip.{Chip}
+use Rattle.rules.specs.Chip.{fits}
 use Rattle.rules.specs.Model.{Model, Answer}
 use Rattle.rules.specs.Sound.{Sound}
 use Rattle.rules.specs.Step.{actOf, stepOf, answersOf}
@@ -48,6 +50,6 @@ module _ (c : Chip) (script : List ℕ) (m : Model) (at events room : ℕ) where
   unfolding goneOn ran fitting allFit linesOf offsetAfter passed
   gone-step e next o h = rw (o .rest, le-leb lineRoom room h, o .found, append-assoc, add-suc, suc-add)
 
-  pub gone-next : (e : Event) (next : ℕ) → One script at e next → Sound c m → lineRoom ≤ room → goneOn c script m at events room ≡ prefixed (lineOf (suc events) (actOf c m e)) (goneOn c script (actOf c m e .next) next (suc events) (room - length (lineOf (suc events) (actOf c m e))))
-  gone-next e next o s h =
-      subst (λ (a : Answer). goneOn c script m at events room ≡ prefixed (lineOf (suc events) a) (goneOn c script (a .next) next (suc events) (room - length (lineOf (suc events) a)))) (step-sound s e) (gone-step e next o h)
+  pub gone-next : (e : Event) (next : ℕ) → One script at e next → T (fits c) → Sound c m → lineRoom ≤ room → goneOn c script m at events room ≡ prefixed (lineOf (suc events) (actOf c m e)) (goneOn c script (actOf c m e .next) next (suc events) (room - length (lineOf (suc events) (actOf c m e))))
+  gone-next e next o f s h =
+      subst (λ (a : Answer). goneOn c script m at events room ≡ prefixed (lineOf (suc events) a) (goneOn c script (a .next) next (suc events) (room - length (lineOf (suc events) a)))) (step-sound f s e) (gone-step e next o h)

@@ -1,25 +1,26 @@
 -- What each way out of a call gives is what the call promises.
 use Prim.Native.Nat.{ℕ, _-_, _≤_, _<_}
 use mathlib.Core.Path.{_≡_, refl, sym, ap, subst, _∙_}
-use mathlib.Core.List.{List, _++_, append-nil}
-use mathlib.Core.Bool.{Bool, true, false}
+use mathlib.Core.List.{List, [], _++_, append-nil}
+use mathlib.Core.Bool.{Bool, true, false, cond}
 use native.Mathlib.Omega.{arith}
 use lib.ListN.{length}
-use lib.Dec.{leb, leb→le}
-use borrow.Author.Tests.{lt-ltb, le-ltb}
-use Rattle.bools.specs.Tests.{is-true, both}
+use lib.Dec.{T, leb, leb→le}
+use borrow.Author.Tests.{lt-ltb, le-ltb, le-leb, lt-leb, leb-true, leb-false}
+use Rattle.bools.specs.Tests.{is-true, true-is, both}
 use Rattle.decimal.specs.Decimal.{brokenText, lineRoom}
 use Rattle.decimal.specs.Written.{Puts, puts-append}
 use Rattle.rules.specs.declared.Chip.{Chip}
 use Rattle.rules.specs.declared.Core.{Core}
+use Rattle.rules.specs.Chip.{fits}
 use Rattle.rules.specs.Lent.{modelOf}
 use Rattle.rules.specs.Model.{Model}
 use Rattle.rules.specs.Sound.{isSound}
 use Rattle.demand3.proofs.Check.{of-sound}
 use Rattle.text.specs.Text.{endText}
 use Rattle.pieces.specs.declared.Course.{Course}
-use Rattle.pieces.specs.Pieces.{scriptAt, isUsable, Usable, Piece, goneOn, stopped, pieceOf, courseOf, Ran}
-use Rattle.pieces.specs.Steps.{unmoved, refused, going, finished, Underway, Stuck, Closed}
+use Rattle.pieces.specs.Pieces.{scriptAt, isUsable, Usable, Piece, goneOn, lineAlone, unadmitted, stopped, pieceOf, courseOf, Ran}
+use Rattle.pieces.specs.Steps.{unmoved, refused, going, finished, Underway, Unrun, Stuck, Closed}
 use Rattle.pieces.proofs.Laws.{script-end, script-refused, script-long}
 use Rattle.pieces.proofs.Pieces.{prefixed, still, gone-full, gone-closed}
 use Rattle.pieces.proofs.Loop.{puts-length, puts-none, Going}
@@ -39,17 +40,30 @@ module _ (c : Chip) (script : List ℕ) (m : Model) (p : Course) (room : ℕ) wh
   unfolding pieceOf
   piece-ended e = rw e
 
-  pub piece-long : p .ended ≡ false → 65536 < length script → pieceOf c script m p room ≡ goneOn c script m (p .at) (p .events) room
+  pub piece-unadmitted : p .ended ≡ false → fits c ≡ false → pieceOf c script m p room ≡ unadmitted m p room
   unfolding pieceOf
-  piece-long e h = rw (e, lt-ltb 65536 (length script) h)
+  piece-unadmitted e f = rw (e, f)
 
-  pub piece-usable : p .ended ≡ false → length script ≤ 65536 → isUsable c m p ≡ true → pieceOf c script m p room ≡ goneOn c script m (p .at) (p .events) room
-  unfolding pieceOf
-  piece-usable e h u = simp (e, le-ltb 65536 (length script) h, u)
+  module _ (e : p .ended ≡ false) (f : T (fits c)) where
+    pub piece-long : 65536 < length script → pieceOf c script m p room ≡ goneOn c script m (p .at) (p .events) room
+    unfolding pieceOf
+    piece-long h = rw (e, true-is (fits c) f, lt-ltb 65536 (length script) h)
 
-  pub piece-refused : p .ended ≡ false → length script ≤ 65536 → isUsable c m p ≡ false → pieceOf c script m p room ≡ stopped 16 m p
-  unfolding pieceOf
-  piece-refused e h u = simp (e, le-ltb 65536 (length script) h, u)
+    pub piece-usable : length script ≤ 65536 → isUsable c m p ≡ true → pieceOf c script m p room ≡ goneOn c script m (p .at) (p .events) room
+    unfolding pieceOf
+    piece-usable h u = simp (e, true-is (fits c) f, le-ltb 65536 (length script) h, u)
+
+    pub piece-refused : length script ≤ 65536 → isUsable c m p ≡ false → pieceOf c script m p room ≡ stopped 16 m p
+    unfolding pieceOf
+    piece-refused h u = simp (e, true-is (fits c) f, le-ltb 65536 (length script) h, u)
+
+-- a script that is too long: its line, where it has room
+gone-long : (c : Chip) (script : List ℕ) (m : Model) (p : Course) (room : ℕ) → 65536 < length script → (b : Bool) → leb lineRoom room ≡ b → goneOn c script m (p .at) (p .events) room ≡ still b m (p .at) (p .events) (cond b (brokenText 15 65536) [])
+unfolding endText
+gone-long c script m p room long true q =
+    let s = script-long script (p .at) long in
+    gone-closed c script m (p .at) (p .events) room (rw s) (leb-true lineRoom room q) ∙ rw s
+gone-long c script m p room long false q = gone-full c script m (p .at) (p .events) room (leb-false lineRoom room q)
 
 -- ---- ways out
 
@@ -61,23 +75,42 @@ module _ {c : Chip} {script : List ℕ} {m : Model} {p : Course} {old : List ℕ
   pub ran-ended : p .ended ≡ true → p .core ≡ m .core → Ran c script m p old m (unmoved p) old
   ran-ended e k = ran-by _ (piece-ended c script m p (length old) e) _ (rw (e, k)) old (puts-none 0 old) (omega arith)
 
-  pub ran-refused : p .ended ≡ false → length script ≤ 65536 → isUsable c m p ≡ false → p .core ≡ m .core → Ran c script m p old m (refused p) old
-  ran-refused e h u k = ran-by _ (piece-refused c script m p (length old) e h u) _ (rw k) old (puts-none 0 old) (omega arith)
+  pub ran-refused : p .ended ≡ false → T (fits c) → length script ≤ 65536 → isUsable c m p ≡ false → p .core ≡ m .core → Ran c script m p old m (refused p) old
+  ran-refused e f h u k = ran-by _ (piece-refused c script m p (length old) e f h u) _ (rw k) old (puts-none 0 old) (omega arith)
 
-  -- a script that is too long: no room for its line, and its line
-  module _ (e : p .ended ≡ false) (long : 65536 < length script) (k : p .core ≡ m .core) where
-    pub ran-long-full : length old < lineRoom → Ran c script m p old m (going (p .core) (p .at) (p .events) 0) old
-    ran-long-full h =
-        ran-by _ (piece-long c script m p (length old) e long ∙ gone-full c script m (p .at) (p .events) (length old) h) _ (rw k) old (puts-none 0 old) (omega arith)
+-- a call of which no event runs leaves the core, and so the model
+module _ {c : Chip} {script : List ℕ} {pending active enabled level : List Bool} {priority nest : List ℕ} {p : Course} {old : List ℕ} {r : Course} {new : List ℕ} where
+  unrun-by : {refusal number offset : ℕ} → pieceOf c script (modelOf pending active enabled level priority nest (p .core)) p (length old) ≡ record { model = modelOf pending active enabled level priority nest (p .core); at = p .at; events = p .events; ended = leb lineRoom (length old); refusal = refusal; text = lineAlone number offset (length old) } → Unrun p refusal number offset old r new → Ran c script (modelOf pending active enabled level priority nest (p .core)) p old (modelOf pending active enabled level priority nest (r .core)) r new
+  unrun-by q n =
+      subst (λ (x : Core). Ran c script (modelOf pending active enabled level priority nest (p .core)) p old (modelOf pending active enabled level priority nest x) r new) (sym (ap (λ (x : Course). x .core) (n .course)))
+      (ran-by _ q r (n .course) new (n .puts) (n .within))
 
-    pub ran-long : lineRoom ≤ length old → (wrote : ℕ) (new : List ℕ) → Puts 0 (brokenText 15 65536) old wrote new → wrote ≤ length old → Ran c script m p old m (finished p wrote) new
-    unfolding endText
-    ran-long h wrote new w l =
-        let s = script-long script (p .at) long in
-        let q : pieceOf c script m p (length old) ≡ still true m (p .at) (p .events) (brokenText 15 65536) = piece-long c script m p (length old) e long ∙ gone-closed c script m (p .at) (p .events) (length old) (rw s) h ∙ rw s in
-        let n = w .next-is in
-        let d : wrote ≡ length (brokenText 15 65536) = omega arith in
-        ran-by _ q _ (rw (k, d)) new w l
+  pub ran-unadmitted : p .ended ≡ false → fits c ≡ false → Unrun p 17 17 0 old r new → Ran c script (modelOf pending active enabled level priority nest (p .core)) p old (modelOf pending active enabled level priority nest (r .core)) r new
+  ran-unadmitted e f n = unrun-by (piece-unadmitted c script _ p (length old) e f) n
+
+  pub ran-long : p .ended ≡ false → T (fits c) → 65536 < length script → Unrun p 0 15 65536 old r new → Ran c script (modelOf pending active enabled level priority nest (p .core)) p old (modelOf pending active enabled level priority nest (r .core)) r new
+  ran-long e f long n = unrun-by (piece-long c script _ p (length old) e f long ∙ gone-long c script _ p (length old) long (leb lineRoom (length old)) refl) n
+
+-- a run of which no event runs: no room for its line, and its line
+module _ {p : Course} {number offset : ℕ} {old : List ℕ} where
+  pub unrun-full : length old < lineRoom → Unrun p 0 number offset old (going (p .core) (p .at) (p .events) 0) old
+  unrun-full h = let e = lt-leb lineRoom (length old) h in record { course = rw e; puts = rw e (puts-none 0 old); within = omega arith }
+
+  pub unrun-line : lineRoom ≤ length old → (wrote : ℕ) (new : List ℕ) → Puts 0 (brokenText number offset) old wrote new → wrote ≤ length old → Unrun p 0 number offset old (finished p wrote) new
+  unrun-line h wrote new w l =
+      let e = le-leb lineRoom (length old) h in
+      let n = w .next-is in
+      let d : wrote ≡ length (brokenText number offset) = omega arith in
+      record { course = rw (e, d); puts = rw e w; within = l }
+
+  -- .. with a refusal
+  pub unrun-refused : {r : Course} {new : List ℕ} → Unrun p 0 number offset old r new → (n : ℕ) → Unrun p n number offset old (record { core = r .core; at = r .at; events = r .events; wrote = r .wrote; ended = r .ended; refusal = n }) new
+  unrun-refused h n =
+      record {
+        course = ap (λ (x : Course). record { core = x .core; at = x .at; events = x .events; wrote = x .wrote; ended = x .ended; refusal = n }) (h .course);
+        puts = h .puts;
+        within = h .within;
+      }
 
 -- where no event can be read: at the end, and before it
 module _ {script : List ℕ} {p : Course} {number : ℕ} {out : List ℕ} (k : Stuck script p number out) where
@@ -95,7 +128,7 @@ module _ {script : List ℕ} {p : Course} {number : ℕ} {out : List ℕ} (k : S
 
 module _ {c : Chip} {script : List ℕ} {m : Model} {p : Course} {old : List ℕ} {t : Model} {at events wrote : ℕ} {new : List ℕ} (y : Underway c script m p) (g : Going c script m (p .at) (p .events) old t at events wrote new) where
   on-from : pieceOf c script m p (length old) ≡ prefixed (g .lines) (goneOn c script t at events (length old - wrote))
-  on-from = piece-usable c script m p (length old) (y .going) (y .short) (y .tested) ∙ g .whole
+  on-from = piece-usable c script m p (length old) (y .going) (y .fit) (y .short) (y .tested) ∙ g .whole
 
   -- no room for another line
   pub ran-full : length old - wrote < lineRoom → Ran c script m p old t (going (t .core) at events wrote) new

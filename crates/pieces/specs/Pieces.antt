@@ -5,17 +5,18 @@ use mathlib.Core.List.{List, [], _∷_, _++_}
 use mathlib.Core.Bool.{Bool, true, false, cond, _&&_, _||_}
 use lib.ListN.{length, take}
 use lib.Dec.{ltb, leb}
-use Rattle.decimal.specs.Decimal.{lineRoom}
+use Rattle.decimal.specs.Decimal.{brokenText, lineRoom}
 use Rattle.decimal.specs.Written.{Puts}
 use Rattle.script.specs.declared.ReadEvent.{ReadEvent}
 use Rattle.script.specs.declared.ReadEvent.the-variants.{Found, Refused}
 use Rattle.script.specs.Reading.{readEvent}
 use Rattle.script.specs.Script.{Script, brokenBy, scriptFrom}
 use Rattle.rules.specs.declared.Chip.{Chip}
+use Rattle.rules.specs.Chip.{fits}
 use Rattle.rules.specs.Model.{Model, Answer, freshCore}
 use Rattle.rules.specs.Sound.{isSound, Sound}
 use Rattle.rules.specs.Step.{answersOf, runOf}
-use Rattle.text.specs.Text.{lineOf, linesOf, endText, scriptText}
+use Rattle.text.specs.Text.{lineOf, linesOf, endText, scriptText, admittedText}
 use Rattle.pieces.specs.declared.Course.{Course}
 
 -- the script from an offset on; from 0 on it is `scriptOf`
@@ -87,17 +88,29 @@ goneOn c bytes m at events room =
     (fitting room (suc events) (answersOf c m (scriptAt bytes at .events)))
     (allFit room (suc events) (answersOf c m (scriptAt bytes at .events)))
 
+-- what is written where no event runs: the line `script R at B`, where it has room
+abbrev pub lineAlone : ℕ → ℕ → ℕ → List ℕ
+lineAlone number offset room = cond (leb lineRoom room) (brokenText number offset) []
+
+-- a run on a chip that does not fit is refused as a whole
+abbrev pub unadmitted : Model → Course → ℕ → Piece
+unadmitted m p room =
+    record { model = m; at = p .at; events = p .events; ended = leb lineRoom room; refusal = 17; text = lineAlone 17 0 room }
+
 -- nothing runs and nothing is written, and the script has ended
 abbrev pub stopped : ℕ → Model → Course → Piece
 stopped refusal m p = record { model = m; at = p .at; events = p .events; ended = true; refusal = refusal; text = [] }
 
--- A course that has ended is handed back as it is. "in a script 15 first": a script that is too long says so whatever the state. Else a
--- state that is not sound, or a count of events that no script has, is refused by 16, and the course ends.
+-- A course that has ended is handed back as it is. Document 02, E7: "17 .. checked before all others, 15 and 16 too". "in a script 15 first": a script
+-- that is too long says so whatever the state. Else a state that is not sound, or a count of events that no script has, is refused by 16, and
+-- the course ends.
 unfoldable pub pieceOf : Chip → List ℕ → Model → Course → ℕ → Piece
 pieceOf c bytes m p room =
     cond (p .ended) (stopped (p .refusal) m p)
+    (cond (fits c)
     (cond (ltb 65536 (length bytes) || isUsable c m p) (goneOn c bytes m (p .at) (p .events) room)
     (stopped 16 m p))
+    (unadmitted m p room))
 
 -- ---- the promise
 
@@ -116,7 +129,7 @@ pub record Ran (c : Chip) (script : List ℕ) (m : Model) (p : Course) (old : Li
 
 -- after so many events, which left this model and end at this offset
 unfoldable pub restText : Chip → List ℕ → Model → ℕ → ℕ → List ℕ
-restText c bytes m at events = scriptText c m (suc events) (scriptAt bytes at)
+restText c bytes m at events = admittedText c (scriptText c m (suc events) (scriptAt bytes at))
 
 -- .. on a chip, of a script that has come so far and left this model
 unfoldable pub restOf : Chip → List ℕ → Model → Course → List ℕ

@@ -1,21 +1,19 @@
 // A script run into lines, a piece at a time: the course of a script, and the steps of a call that need no list of the state changed.
 ghost use mathlib.Core.Path.{_≡_};
-ghost use mathlib.Core.Bool.{Bool, true, false};
 ghost use mathlib.Core.List.{List};
-ghost use Prim.Native.Nat.{ℕ, _<_, _≤_, _+_};
+ghost use Prim.Native.Nat.{ℕ, _≤_, _+_};
 ghost use lib.ListN.{length};
 ghost use Rattle.decimal.specs.Decimal.{lineRoom};
 ghost use Rattle.rules.specs.declared.Chip.{Chip};
 ghost use Rattle.rules.specs.Model.{fresh};
-ghost use Rattle.rules.specs.Lent.{modelOf};
 ghost use Rattle.text.specs.Text.{textOf};
-ghost use Rattle.pieces.specs.Pieces.{started, Usable, Ran, restOf};
-ghost use Rattle.pieces.specs.Steps.{unmoved, refused, going, finished, Told, Stuck, Closed};
+ghost use Rattle.pieces.specs.Pieces.{started, Usable, restOf};
+ghost use Rattle.pieces.specs.Steps.{unmoved, refused, going, finished, Unrun, Told, Stuck, Closed};
 use rules::Core;
 use rules::Outcome;
 
 // How far a script has run, beside the lists of the state: its other parts after `events` events, the offset of the next, whether the
-// script has ended, how many bytes of the buffer the last call wrote, and 16 where it was refused.
+// script has ended, how many bytes of the buffer the last call wrote, and 17 or 16 where it was refused.
 pub struct Course {
     pub core: Core,
     pub at: usize,
@@ -124,14 +122,29 @@ pub fn put_answer(
     Line { limit, end }
 }
 
-// The last line, of a script that is too long.
-pub fn run_long(script: &[u8], p: Course, out: &mut [u8]) -> Course
-    requires { ⌜ (65536 < length (now script)) × (p .ended ≡ false) ⌝ }
-    ensures { λ r. ⌜ ((chip : Chip) (pending active enabled level : List Bool) (priority nest : List ℕ) → Ran chip (now (script .entry)) (modelOf pending active enabled level priority nest (p .core)) p (now (out .entry)) (modelOf pending active enabled level priority nest (r .core)) r (now (out .exit))) ⌝ }
+// No event runs: the line `script R at B` is written and ends the script, where it has room.
+fn unrun(p: Course, number: u32, offset: u32, out: &mut [u8]) -> Course
+    ensures { λ r. ⌜ Unrun p 0 number offset (now (out .entry)) r (now (out .exit)) ⌝ }
 {
     if out.len() < LINE_ROOM {
         let core = p.core;
         return going(core, p.at, p.events, 0);
     }
-    finished(p, decimal::put_broken(out, 0, 15, 65536))
+    finished(p, decimal::put_broken(out, 0, number, offset))
+}
+
+// The chip does not fit.
+pub fn unadmitted(p: Course, out: &mut [u8]) -> Course
+    ensures { λ r. ⌜ Unrun p 17 17 0 (now (out .entry)) r (now (out .exit)) ⌝ }
+{
+    let mut r = unrun(p, 17, 0, out);
+    r.refusal = 17;
+    r
+}
+
+// The script is too long.
+pub fn run_long(p: Course, out: &mut [u8]) -> Course
+    ensures { λ r. ⌜ Unrun p 0 15 65536 (now (out .entry)) r (now (out .exit)) ⌝ }
+{
+    unrun(p, 15, 65536, out)
 }

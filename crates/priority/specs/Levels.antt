@@ -1,7 +1,7 @@
 -- The group numbers that there are: -2, -1 and the first multiples of a power of two. So a strictly rising list of them is short.
 use Prim.Native.Nat.{ℕ, _+_, _-_, _*_, _/_, _%_, _^_, _≤_, _<_, min, max}
 use mathlib.Core.Path.{_≡_, refl, sym, ap, subst, subst₂, _∙_}
-use mathlib.Core.List.{List}
+use mathlib.Core.List.{List, [], _∷_, map}
 use mathlib.Core.Bool.{Bool, true, false}
 use native.Mathlib.Nat.{zero-mod, mul-mod-left, div-mul-le-self, lt-of-mul-lt-mul-right}
 use native.Mathlib.Omega.{arith}
@@ -19,9 +19,23 @@ pub record Kept (w b : ℕ) : Type 0 where
   pub byte : b < 256
   pub cut : b % 2 ^ (8 - w) ≡ 0
 
--- "L, the count of group numbers, is 8 for p up to 4, then 4, 2, 1", with three bits kept
+-- "L, the count of group numbers, is 8 for p up to 4, then 4, 2, 1"; document 02, E7: "L becomes 2 to the power of the smaller of w and 7 - p"
 abbrev pub levels : ℕ → ℕ → ℕ
 levels w p = 2 ^ min w (7 - p)
+
+abbrev bySetting : ℕ → List ℕ
+bySetting w = map (levels w) (0 ∷ 1 ∷ 2 ∷ 3 ∷ 4 ∷ 5 ∷ 6 ∷ 7 ∷ [])
+
+-- for p from 0 to 7, a row for each w from 3 to 8
+pub levels-table : map bySetting (3 ∷ 4 ∷ 5 ∷ 6 ∷ 7 ∷ 8 ∷ []) ≡
+    (8 ∷ 8 ∷ 8 ∷ 8 ∷ 8 ∷ 4 ∷ 2 ∷ 1 ∷ [])
+    ∷ (16 ∷ 16 ∷ 16 ∷ 16 ∷ 8 ∷ 4 ∷ 2 ∷ 1 ∷ [])
+    ∷ (32 ∷ 32 ∷ 32 ∷ 16 ∷ 8 ∷ 4 ∷ 2 ∷ 1 ∷ [])
+    ∷ (64 ∷ 64 ∷ 32 ∷ 16 ∷ 8 ∷ 4 ∷ 2 ∷ 1 ∷ [])
+    ∷ (128 ∷ 64 ∷ 32 ∷ 16 ∷ 8 ∷ 4 ∷ 2 ∷ 1 ∷ [])
+    ∷ (128 ∷ 64 ∷ 32 ∷ 16 ∷ 8 ∷ 4 ∷ 2 ∷ 1 ∷ [])
+    ∷ []
+levels-table = refl
 
 pub kept-byte : (w b : ℕ) → Kept w (keptByte w b)
 kept-byte w b =

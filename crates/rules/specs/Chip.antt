@@ -1,4 +1,4 @@
--- Document 01, "The chip", and document 02, E4: which chips there are, and which exceptions each has.
+-- Document 01, "The chip", and document 02, E4 and E7: which chips there are, and which exceptions each has.
 use Prim.Native.Nat.{ℕ, _+_}
 use mathlib.Core.List.{List, [], _∷_}
 use mathlib.Core.Bool.{Bool, false, cond, _&&_, _||_}
@@ -22,9 +22,17 @@ abbrev pub partChip : Part → Chip
 partChip Lines55 = chip55
 partChip Lines240 = chip240
 
--- E4: "the library's caller names the chip or setup"
+-- E7: "Let a chip keep the top w bits"
+abbrev pub withBits : ℕ → Chip → Chip
+withBits w c = record { lines = c .lines; bits = w }
+
+-- E4: "the library's caller names the chip or setup", and with E7 the bits that it keeps
 abbrev pub chipOf : Setup → Chip
-chipOf s = partChip (s .part)
+chipOf s = withBits (s .bits) (partChip (s .part))
+
+-- E7: "w from 3 to 8"
+abbrev pub fits : Chip → Bool
+fits c = leb 3 (c .bits) && leb (c .bits) 8
 
 -- "Flags are held for numbers 0 to 70"; E4: "exceptions up to 255"
 abbrev pub flagCount : Chip → ℕ

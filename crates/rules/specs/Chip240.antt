@@ -19,7 +19,7 @@ use Rattle.rules.specs.Writes.{swtrigWritten}
 use Rattle.rules.specs.Events.{lineCall}
 
 -- "Both chips stay .. the library's caller names the chip"
-named : (chipOf (record { part = Lines55 }) ≡ chip55) × (chipOf (record { part = Lines240 }) ≡ chip240)
+named : (chipOf (record { part = Lines55; bits = 3 }) ≡ chip55) × (chipOf (record { part = Lines240; bits = 3 }) ≡ chip240)
 named = (refl, refl)
 
 -- "lines 0 to 239, exceptions up to 255"

@@ -16,3 +16,4 @@ pub mod Laws
 pub mod Table
 pub mod LineLaws
 pub mod Chip240
+pub mod PriorityBits

@@ -28,7 +28,7 @@ use Rattle.rules.specs.Model.{Model, down, stack}
 unfoldable pub flagSound : Chip → Place → List Bool → ℕ → Bool
 flagSound c place flags n = implies (on flags n) (stands c place n)
 
--- byte n has none but the kept bits, and is 0 where no exception has a byte
+-- byte n has none but the kept bits (document 02, E7: "Soundness of a state follows w"; so does BASEPRI below), and is 0 where no exception has a byte
 unfoldable pub byteSound : Chip → List ℕ → ℕ → Bool
 byteSound c bytes n =
     eqb (keptByte (c .bits) (getD bytes n 0)) (getD bytes n 0) && (hasByte c n || eqb (getD bytes n 0) 0)

@@ -1,10 +1,11 @@
--- Every event, by one clause a kind. Refusal 16 comes first.
+-- Every event, by one clause a kind. Refusal 17 comes first, then 16.
 use mathlib.Core.List.{List, [], _∷_}
 use mathlib.Core.Bool.{cond}
 use Rattle.script.specs.declared.Event.{Event}
 use Rattle.script.specs.declared.Event.the-variants as event
 use Rattle.script.specs.Event.{accessNumber}
 use Rattle.rules.specs.declared.Chip.{Chip}
+use Rattle.rules.specs.Chip.{fits}
 use Rattle.rules.specs.Model.{Model, Answer, refuse}
 use Rattle.rules.specs.Sound.{isSound}
 use Rattle.rules.specs.Events.{lineCall, nmiCall, tickCall, faultCall, svcCall, specialCall}
@@ -30,8 +31,12 @@ actOf c m (event.Access kind w a) = accessCall m (accessNumber kind) w a
 unfoldable pub guarded : Chip → Model → Answer → Answer
 guarded c m a = cond (isSound c m) a (refuse 16 m)
 
+-- Document 02, E7: "17, a chip setup with w outside 3 to 8, checked before all others, 15 and 16 too"
+unfoldable pub admitted : Chip → Model → Answer → Answer
+admitted c m a = cond (fits c) a (refuse 17 m)
+
 abbrev pub stepOf : Chip → Model → Event → Answer
-stepOf c m e = guarded c m (actOf c m e)
+stepOf c m e = admitted c m (guarded c m (actOf c m e))
 
 -- ---- a list of events, each on the model that the last one left
 

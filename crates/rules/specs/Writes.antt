@@ -41,7 +41,8 @@ bankWritten PendingSet n v m = withPending (setFlags (m .pending) n v) m
 bankWritten PendingClear n v m = withPending (clearFlags (m .pending) n (clearable (m .level) (m .active) n v)) m
 bankWritten Active n v m = m
 
--- one priority byte, cut to its kept bits; where no exception has one, nothing
+-- one priority byte, of a line or of a system exception, cut to the chip's kept bits (document 02, E7: "Cutting a byte .. and reading back follow w");
+-- where no exception has one, nothing
 unfoldable pub withByte : Chip → ℕ → ℕ → List ℕ → List ℕ
 withByte c n b bytes = cond (hasByte c n) (set bytes n (keptByte (c .bits) b)) bytes
 

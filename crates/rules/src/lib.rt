@@ -1,7 +1,8 @@
 // What the rules and the code of every chip share: the chip itself, the parts of the state that hold no array, and the names of the
 // registers.
 ghost use mathlib.Core.Path.{_≡_};
-ghost use Rattle.rules.specs.Chip.{chipOf};
+ghost use Rattle.rules.specs.Chip.{chipOf, fits};
+use bools::both;
 use mpu::Mpu;
 use mpu::MpuRegister;
 use systick::Timer;
@@ -18,9 +19,20 @@ pub enum Part {
     Lines240,
 }
 
-// How a caller names a chip: `chipOf` of the rules.
+// How a caller names a chip: `chipOf` of the rules. `bits` is how many bits of a priority byte are kept (CMSIS calls it __NVIC_PRIO_BITS): any
+// number may stand there, and outside 3 to 8 every call refuses it by 17.
 pub struct Setup {
     pub part: Part,
+    pub bits: u32,
+}
+
+impl Chip {
+    // The test of refusal 17.
+    pub fn fits(self) -> bool
+        ensures { λ r. ⌜ r ≡ fits self ⌝ }
+    {
+        both(3 <= self.bits, self.bits <= 8)
+    }
 }
 
 impl Setup {
@@ -28,12 +40,10 @@ impl Setup {
         ensures { λ r. ⌜ r ≡ chipOf self ⌝ }
     {
         let part = self.part;
+        let bits = self.bits;
         match part {
-            Part::Lines55 => Chip { lines: 55, bits: 3 },
-            Part::Lines240 => Chip {
-                lines: 240,
-                bits: 3,
-            },
+            Part::Lines55 => Chip { lines: 55, bits },
+            Part::Lines240 => Chip { lines: 240, bits },
         }
     }
 }

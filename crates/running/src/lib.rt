@@ -1,7 +1,7 @@
 // A script run into lines on lent lists, a piece at a time, for every chip.
 ghost use mathlib.Core.Path.{_≡_};
 ghost use Rattle.rules.specs.Lent.{modelOf};
-ghost use Rattle.guarded.specs.Fits.{Fits};
+ghost use Rattle.guarded.specs.FewLines.{FewLines};
 ghost use Rattle.pieces.specs.Pieces.{isUsable, Ran};
 ghost use Rattle.pieces.specs.Steps.{Underway};
 use pieces::Course;
@@ -20,7 +20,7 @@ fn is_usable(
     nest: &[u8],
     p: Course,
 ) -> bool
-    requires { ⌜ Fits chip ⌝ }
+    requires { ⌜ FewLines chip ⌝ }
     ensures { λ r. ⌜ r ≡ isUsable chip (modelOf (now (pending .entry)) (now (active .entry)) (now (enabled .entry)) (now (level .entry)) (now (priority .entry)) (now (nest .entry)) (p .core)) p ⌝ }
 {
     let core = p.core;
@@ -43,7 +43,7 @@ fn run_events(
     course: Course,
     out: &mut [u8],
 ) -> Course
-    requires { ⌜ Fits chip × Underway chip (now script) (modelOf (now pending) (now active) (now enabled) (now level) (now priority) (now nest) (course .core)) course ⌝ }
+    requires { ⌜ FewLines chip × Underway chip (now script) (modelOf (now pending) (now active) (now enabled) (now level) (now priority) (now nest) (course .core)) course ⌝ }
     ensures { λ r. ⌜ Ran chip (now (script .entry)) (modelOf (now (pending .entry)) (now (active .entry)) (now (enabled .entry)) (now (level .entry)) (now (priority .entry)) (now (nest .entry)) (course .core)) course (now (out .entry)) (modelOf (now (pending .exit)) (now (active .exit)) (now (enabled .exit)) (now (level .exit)) (now (priority .exit)) (now (nest .exit)) (r .core)) r (now (out .exit)) ⌝ }
 {
     let mut core = course.core;
@@ -96,14 +96,17 @@ pub fn run_some(
     course: Course,
     out: &mut [u8],
 ) -> Course
-    requires { ⌜ Fits chip ⌝ }
+    requires { ⌜ FewLines chip ⌝ }
     ensures { λ r. ⌜ Ran chip (now (script .entry)) (modelOf (now (pending .entry)) (now (active .entry)) (now (enabled .entry)) (now (level .entry)) (now (priority .entry)) (now (nest .entry)) (course .core)) course (now (out .entry)) (modelOf (now (pending .exit)) (now (active .exit)) (now (enabled .exit)) (now (level .exit)) (now (priority .exit)) (now (nest .exit)) (r .core)) r (now (out .exit)) ⌝ }
 {
     if course.ended {
         return pieces::unmoved(course);
     }
+    if !chip.fits() {
+        return pieces::unadmitted(course, out);
+    }
     if LONGEST < script.len() {
-        return pieces::run_long(script, course, out);
+        return pieces::run_long(course, out);
     }
     if is_usable(
         chip,

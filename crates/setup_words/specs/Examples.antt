@@ -6,52 +6,76 @@ use mathlib.Core.Bool.{Bool, true, false}
 use Rattle.rules.specs.declared.Setup.{Setup}
 use Rattle.rules.specs.declared.Part.the-variants.{Lines55, Lines240}
 use Rattle.setup_words.specs.declared.Words.{Words}
-use Rattle.setup_words.specs.Words.{linesWord, number55, number240, isSame, started, linesBy, paired}
+use Rattle.setup_words.specs.Words.{linesWord, number55, number240, bitsWord, isSame, areDigits, isNumber, numberFrom, started, linesBy, bitsBy, paired}
 
--- words that name the 55-line chip, or the 240-line chip
-abbrev Names55 : Words → Type 0
-Names55 w = (w .setup ≡ record { part = Lines55 }) × (w .wrong ≡ false)
+-- words that name the 55-line chip, or the 240-line chip, with so many kept bits
+abbrev Names55 : ℕ → Words → Type 0
+Names55 bits w = (w .setup ≡ record { part = Lines55; bits = bits }) × (w .wrong ≡ false)
 
-abbrev Names240 : Words → Type 0
-Names240 w = (w .setup ≡ record { part = Lines240 }) × (w .wrong ≡ false)
+abbrev Names240 : ℕ → Words → Type 0
+Names240 bits w = (w .setup ≡ record { part = Lines240; bits = bits }) × (w .wrong ≡ false)
 
-none : Names55 started
+none : Names55 3 started
 none = (refl, refl)
 
-lines-55 : Names55 (paired started linesWord number55)
-unfolding paired linesBy isSame
+lines-55 : Names55 3 (paired started linesWord number55)
+unfolding paired linesBy bitsBy isSame
 lines-55 = (refl, refl)
 
-lines-240 : Names240 (paired started linesWord number240)
-unfolding paired linesBy isSame
+lines-240 : Names240 3 (paired started linesWord number240)
+unfolding paired linesBy bitsBy isSame
 lines-240 = (refl, refl)
 
 -- `--lines 56`
 lines-56 : paired started linesWord (53 ∷ 54 ∷ []) .wrong ≡ true
-unfolding paired linesBy isSame
+unfolding paired linesBy bitsBy isSame
 lines-56 = refl
 
 -- `--lines 0240`
 lines-0240 : paired started linesWord (48 ∷ number240) .wrong ≡ true
-unfolding paired linesBy isSame
+unfolding paired linesBy bitsBy isSame
 lines-0240 = refl
 
 -- `--lines` without a value
 no-value : paired started linesWord [] .wrong ≡ true
-unfolding paired linesBy isSame
+unfolding paired linesBy bitsBy isSame
 no-value = refl
 
 -- `--line 55`
 unknown : paired started (45 ∷ 45 ∷ 108 ∷ 105 ∷ 110 ∷ 101 ∷ []) number55 .wrong ≡ true
-unfolding paired linesBy isSame
+unfolding paired linesBy bitsBy isSame
 unknown = refl
 
 -- `--lines 240 --lines 240`
 twice : paired (paired started linesWord number240) linesWord number240 .wrong ≡ true
-unfolding paired linesBy isSame
+unfolding paired linesBy bitsBy isSame
 twice = refl
 
 -- `--line 55 --lines 240`
 stays-wrong : paired (paired started (45 ∷ 45 ∷ 108 ∷ 105 ∷ 110 ∷ 101 ∷ []) number55) linesWord number240 .wrong ≡ true
-unfolding paired linesBy isSame
+unfolding paired linesBy bitsBy isSame
 stays-wrong = refl
+
+-- `--bits 8`
+bits-8 : Names55 8 (paired started bitsWord (56 ∷ []))
+unfolding paired bitsBy isSame isNumber areDigits numberFrom
+bits-8 = (refl, refl)
+
+-- `--lines 240 --bits 10` and `--bits 10 --lines 240`
+both-words : Names240 10 (paired (paired started linesWord number240) bitsWord (49 ∷ 48 ∷ [])) × Names240 10 (paired (paired started bitsWord (49 ∷ 48 ∷ [])) linesWord number240)
+unfolding paired linesBy bitsBy isSame isNumber areDigits numberFrom
+both-words = ((refl, refl), (refl, refl))
+
+-- `--bits 4294967295`, and one more, which is too large for 32 bits
+largest : Names55 0xFFFFFFFF (paired started bitsWord (52 ∷ 50 ∷ 57 ∷ 52 ∷ 57 ∷ 54 ∷ 55 ∷ 50 ∷ 57 ∷ 53 ∷ []))
+unfolding paired bitsBy isSame isNumber areDigits numberFrom
+largest = (refl, refl)
+
+too-large : Names55 0xFFFFFFFF (paired started bitsWord (52 ∷ 50 ∷ 57 ∷ 52 ∷ 57 ∷ 54 ∷ 55 ∷ 50 ∷ 57 ∷ 54 ∷ []))
+unfolding paired bitsBy isSame isNumber areDigits numberFrom
+too-large = (refl, refl)
+
+-- `--bits -3`, `--bits` without a value, and `--bits 3 --bits 3`
+no-number : (paired started bitsWord (45 ∷ 51 ∷ []) .wrong ≡ true) × (paired started bitsWord [] .wrong ≡ true) × (paired (paired started bitsWord (51 ∷ [])) bitsWord (51 ∷ []) .wrong ≡ true)
+unfolding paired bitsBy isSame isNumber areDigits numberFrom
+no-number = (refl, refl, refl)

@@ -1,8 +1,8 @@
 -- The words after a program's name that name a setup: pairs of a word and its value, in any order, each word at most once.
-use Prim.Native.Nat.{ℕ}
+use Prim.Native.Nat.{ℕ, _+_, _-_, _*_, min}
 use mathlib.Core.List.{List, [], _∷_}
 use mathlib.Core.Bool.{Bool, true, false, cond, _&&_}
-use lib.Dec.{eqb}
+use lib.Dec.{leb, eqb}
 use Rattle.rules.specs.declared.Part.{Part}
 use Rattle.rules.specs.declared.Part.the-variants.{Lines55, Lines240}
 use Rattle.setup_words.specs.declared.Words.{Words}
@@ -17,6 +17,10 @@ number55 = 53 ∷ 53 ∷ []
 abbrev pub number240 : List ℕ
 number240 = 50 ∷ 52 ∷ 48 ∷ []
 
+-- "--bits"
+abbrev pub bitsWord : List ℕ
+bitsWord = 45 ∷ 45 ∷ 98 ∷ 105 ∷ 116 ∷ 115 ∷ []
+
 -- byte for byte
 unfoldable pub isSame : List ℕ → List ℕ → Bool
 isSame [] [] = true
@@ -24,16 +28,40 @@ isSame [] (y ∷ ys) = false
 isSame (x ∷ xs) [] = false
 isSame (x ∷ xs) (y ∷ ys) = eqb x y && isSame xs ys
 
--- No words: the 55-line chip.
-abbrev pub started : Words
-started = record { setup = record { part = Lines55 }; lines = false; wrong = false }
+-- the digits 0 to 9 in ASCII, and a decimal number: one of them or more
+abbrev pub isDigit : ℕ → Bool
+isDigit b = leb 48 b && leb b 57
 
--- An unknown word, a value that is no choice, or a word for the second time: whatever follows, the words stay wrong.
+unfoldable pub areDigits : List ℕ → Bool
+areDigits [] = true
+areDigits (b ∷ bs) = isDigit b && areDigits bs
+
+unfoldable pub isNumber : List ℕ → Bool
+isNumber [] = false
+isNumber (b ∷ bs) = areDigits (b ∷ bs)
+
+-- n and the digit b after it; a number that is too large for 32 bits is the largest that is not
+abbrev pub withDigit : ℕ → ℕ → ℕ
+withDigit n b = min (10 * n + (b - 48)) 0xFFFFFFFF
+
+-- the number that n and the digits after it write
+unfoldable pub numberFrom : ℕ → List ℕ → ℕ
+numberFrom n [] = n
+numberFrom n (b ∷ bs) = numberFrom (withDigit n b) bs
+
+-- No words: the 55-line chip, three bits.
+abbrev pub started : Words
+started = record { setup = record { part = Lines55; bits = 3 }; lines = false; bits = false; wrong = false }
+
+-- An unknown word, a value that is no choice or no number, or a word for the second time: whatever follows, the words stay wrong.
 abbrev pub mistaken : Words → Words
-mistaken w = record { setup = w .setup; lines = w .lines; wrong = true }
+mistaken w = record { setup = w .setup; lines = w .lines; bits = w .bits; wrong = true }
 
 abbrev pub withPart : Words → Part → Words
-withPart w part = record { setup = record { part = part }; lines = true; wrong = w .wrong }
+withPart w part = record { setup = record { part = part; bits = w .setup .bits }; lines = true; bits = w .bits; wrong = w .wrong }
+
+abbrev pub keeping : Words → ℕ → Words
+keeping w n = record { setup = record { part = w .setup .part; bits = n }; lines = w .lines; bits = true; wrong = w .wrong }
 
 -- `--lines 55|240`
 unfoldable pub linesBy : Words → List ℕ → Words
@@ -43,6 +71,16 @@ linesBy w value =
     (cond (isSame value number240) (withPart w Lines240)
     (mistaken w)))
 
+-- `--bits N`, any number: one outside 3 to 8 is no mistake here, and is refused by 17 when the script is to run
+unfoldable pub bitsBy : Words → List ℕ → Words
+bitsBy w value =
+    cond (w .bits) (mistaken w)
+    (cond (isNumber value) (keeping w (numberFrom 0 value))
+    (mistaken w))
+
 -- a word and its value
 unfoldable pub paired : Words → List ℕ → List ℕ → Words
-paired w word value = cond (isSame word linesWord) (linesBy w value) (mistaken w)
+paired w word value =
+    cond (isSame word linesWord) (linesBy w value)
+    (cond (isSame word bitsWord) (bitsBy w value)
+    (mistaken w))

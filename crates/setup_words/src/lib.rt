@@ -1,6 +1,7 @@
 // The words after a program's name that name a setup.
 ghost use mathlib.Core.Path.{_≡_};
-ghost use Rattle.setup_words.specs.Words.{isSame, started, mistaken, withPart, linesBy, paired};
+ghost use Prim.Native.Nat.{_-_};
+ghost use Rattle.setup_words.specs.Words.{isSame, isDigit, areDigits, isNumber, withDigit, numberFrom, started, mistaken, withPart, keeping, linesBy, bitsBy, paired};
 use rules::Part;
 use rules::Setup;
 
@@ -8,6 +9,7 @@ use rules::Setup;
 pub struct Words {
     pub setup: Setup,
     pub lines: bool,
+    pub bits: bool,
     pub wrong: bool,
 }
 
@@ -35,6 +37,7 @@ impl Words {
         Words {
             setup,
             lines: self.lines,
+            bits: self.bits,
             wrong: true,
         }
     }
@@ -42,12 +45,92 @@ impl Words {
     fn with_part(self, part: Part) -> Words
         ensures { λ r. ⌜ r ≡ withPart self part ⌝ }
     {
+        let setup = self.setup;
         Words {
-            setup: Setup { part },
+            setup: Setup {
+                part,
+                bits: setup.bits,
+            },
             lines: true,
+            bits: self.bits,
             wrong: self.wrong,
         }
     }
+
+    fn keeping(self, bits: u32) -> Words
+        ensures { λ r. ⌜ r ≡ keeping self bits ⌝ }
+    {
+        let setup = self.setup;
+        let part = setup.part;
+        Words {
+            setup: Setup { part, bits },
+            lines: self.lines,
+            bits: true,
+            wrong: self.wrong,
+        }
+    }
+}
+
+fn is_digit(b: u8) -> bool
+    ensures { λ r. ⌜ r ≡ isDigit b ⌝ }
+{
+    if b < b'0' {
+        return false;
+    }
+    b <= b'9'
+}
+
+fn are_digits(bytes: &[u8]) -> bool
+    ensures { λ r. ⌜ r ≡ areDigits (now (bytes .entry)) ⌝ }
+{
+    let mut i = 0;
+    while i < bytes.len() {
+        if !is_digit(bytes[i]) {
+            return false;
+        }
+        i += 1;
+    }
+    true
+}
+
+fn is_number(bytes: &[u8]) -> bool
+    ensures { λ r. ⌜ r ≡ isNumber (now (bytes .entry)) ⌝ }
+{
+    if bytes.len() == 0 {
+        return false;
+    }
+    are_digits(bytes)
+}
+
+fn digit_of(b: u8) -> u64
+    ensures { λ r. ⌜ r ≡ b - 48 ⌝ }
+{
+    if b < b'0' {
+        return 0;
+    }
+    (b - b'0') as u64
+}
+
+fn with_digit(n: u32, b: u8) -> u32
+    ensures { λ r. ⌜ r ≡ withDigit n b ⌝ }
+{
+    let next = 10 * n as u64 + digit_of(b);
+    if 0xffffffff < next {
+        return 0xffffffff;
+    }
+    next as u32
+}
+
+fn number_of(bytes: &[u8]) -> u32
+    ensures { λ r. ⌜ r ≡ numberFrom 0 (now (bytes .entry)) ⌝ }
+{
+    let mut n = 0;
+    let mut i = 0;
+    while i < bytes.len() {
+        n = with_digit(n, bytes[i]);
+        i += 1;
+    }
+    n
 }
 
 fn lines_by(words: Words, value: &[u8]) -> Words
@@ -65,15 +148,29 @@ fn lines_by(words: Words, value: &[u8]) -> Words
     words.mistaken()
 }
 
-// Before the first word: the 55-line chip.
+fn bits_by(words: Words, value: &[u8]) -> Words
+    ensures { λ r. ⌜ r ≡ bitsBy words (now (value .entry)) ⌝ }
+{
+    if words.bits {
+        return words.mistaken();
+    }
+    if is_number(value) {
+        return words.keeping(number_of(value));
+    }
+    words.mistaken()
+}
+
+// Before the first word: the 55-line chip, three bits.
 pub fn start() -> Words
     ensures { λ r. ⌜ r ≡ started ⌝ }
 {
     Words {
         setup: Setup {
             part: Part::Lines55,
+            bits: 3,
         },
         lines: false,
+        bits: false,
         wrong: false,
     }
 }
@@ -85,13 +182,16 @@ pub fn pair(words: Words, word: &[u8], value: &[u8]) -> Words
     if same(word, b"--lines") {
         return lines_by(words, value);
     }
+    if same(word, b"--bits") {
+        return bits_by(words, value);
+    }
     words.mistaken()
 }
 
-// The arguments at two places, a word and its value. One that is missing or too long for a word counts as empty.
+// The arguments at two places, a word and its value. One that is missing or longer than its space counts as empty.
 pub fn pair_at(words: Words, word: usize, value: usize) -> Words {
     let mut word_space = [0u8; 16];
-    let mut value_space = [0u8; 16];
+    let mut value_space = [0u8; 64];
     let n = os::arg(word, &mut word_space);
     let m = os::arg(value, &mut value_space);
     pair(words, &word_space[..n], &value_space[..m])

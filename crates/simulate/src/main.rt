@@ -18,7 +18,10 @@ fn run_all(setup: Setup, script: &[u8]) {
 fn main() {
     let words = setup_words::named();
     if words.wrong {
-        io::write_all(STDOUT_FILENO, b"usage: simulate [--lines 55|240]\n");
+        io::write_all(
+            STDOUT_FILENO,
+            b"usage: simulate [--lines 55|240] [--bits N]\n",
+        );
         return;
     }
     let setup = words.setup;

@@ -1,6 +1,6 @@
 // Runs each script that the arguments name through the library and compares its text with the file named after it.
 // Says of each vector that differs which line is the first to differ, and at the end how many agree.
-// Vectors run on the 55-line chip of `run`, and after a setup word and its value on the chip that these name.
+// Vectors run on the 55-line chip of `run`, and after setup words and their values on the chip that these name, until other words come.
 ghost use mathlib.Core.Path.{_≡_};
 ghost use Prim.Native.Nat.{_+_, _^_, _<_, _≤_};
 ghost use lib.ListN.{length};
@@ -11,6 +11,7 @@ ghost use Rattle.vectors.specs.Agree.{Agree};
 ghost use Rattle.vectors.specs.Way.{chipBy};
 use libc::STDOUT_FILENO;
 use rules::Setup;
+use setup_words::Words;
 
 // What a vector runs on.
 enum Way {
@@ -201,11 +202,18 @@ fn is_word(i: usize) -> bool {
     space[1] == b'-'
 }
 
-// The way after a setup word and its value. Words that are wrong are reported, and leave it.
-fn named(way: Way, i: usize) -> Way
+// The words with the one at i and its value, where words stood before it too; else these two alone.
+fn continued(words: Words, naming: bool, i: usize) -> Words
     requires { ⌜ i + 1 < 2 ^ 64 ⌝ }
 {
-    let words = setup_words::pair_at(setup_words::start(), i, i + 1);
+    if naming {
+        return setup_words::pair_at(words, i, i + 1);
+    }
+    setup_words::pair_at(setup_words::start(), i, i + 1)
+}
+
+// The way after the word at i. Words that are wrong are reported, and leave it.
+fn named(way: Way, words: Words, i: usize) -> Way {
     if words.wrong {
         unread(i);
         return way;
@@ -217,6 +225,8 @@ fn named(way: Way, i: usize) -> Way
 fn main() {
     let pairs = os::arg_count() / 2;
     let mut way = Way::Run;
+    let mut words = setup_words::start();
+    let mut naming = false;
     let mut agreed = 0;
     let mut vectors = 0;
     let mut k = 0;
@@ -224,9 +234,12 @@ fn main() {
         let i = 2 * k + 1;
         k += 1;
         if is_word(i) {
-            way = named(way, i);
+            words = continued(words, naming, i);
+            naming = true;
+            way = named(way, words, i);
             continue;
         }
+        naming = false;
         agreed += vector(way, i);
         vectors += 1;
     }

@@ -1,8 +1,8 @@
 -- The chip's places of each array are lent and taken back.
 use mathlib.Core.Path.{_≡_, refl, sym, subst}
-use Rattle.guarded.specs.Fits.{Fits}
+use Rattle.guarded.specs.FewLines.{FewLines}
 use Rattle.any_chip.specs.ViewLaws.{Sized}
-use Rattle.any_chip.proofs.View.{setup-fits, Within, within, front}
+use Rattle.any_chip.proofs.View.{few-lines, Within, within, front}
 use Rattle.any_run.proofs.Laws.{run-back}
 use borrow.Author.Needs.{needs}
 use Rattle.any_run.proofs.run_some.Statement.{statement}
@@ -70,7 +70,7 @@ slice-aggregate-run-some-6 : tie.Need-slice-aggregate-run-some-6
 slice-aggregate-run-some-6 c = front _ _ (lent (c .before .before .before .before .before .before) .nest)
 
 run-some-requires : tie.Need-run-some-requires
-run-some-requires c κs = let k = c .before .before .before .before .before .before .before in subst Fits (sym (k .chip .ensures)) (setup-fits (begun k .args .progress .state .setup))
+run-some-requires c κs = let k = c .before .before .before .before .before .before .before in subst FewLines (sym (k .chip .ensures)) (few-lines (begun k .args .progress .state .setup))
 
 same-length : tie.Need-same-length
 same-length c = search needs

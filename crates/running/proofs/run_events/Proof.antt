@@ -165,7 +165,7 @@ loop-again c =
     let e = read (a .before) in
     let t = c .before .before .before .put-answer in
     let x = t .ensures .priority ∙ execution-nest (after-sound a) in
-    (going-next (head e .loop .inv .0) _ _ (one e) (after a) (a .act .ensures) _ refl _ x _ _ (room (e .before .before .before)) (t .ensures .line) (t .ensures .within), toZ-ofZ (search needs) ∙ x)
+    (going-next (head e .loop .inv .0) (begun (head e) .pre .1 .fit) _ _ (one e) (after a) (a .act .ensures) _ refl _ x _ _ (room (e .before .before .before)) (t .ensures .line) (t .ensures .within), toZ-ofZ (search needs) ∙ x)
 
 going-requires-2 : tie.Need-going-requires-2 Inv-loop μ-loop
 going-requires-2 c κs = search needs

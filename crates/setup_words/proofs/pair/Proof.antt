@@ -1,9 +1,13 @@
--- The word is compared with the one that there is.
+-- The word is compared with each that there is.
 use mathlib.Core.Path.{sym}
 use Rattle.setup_words.specs.Words.{paired}
 use borrow.Author.Needs.{needs}
 use Rattle.setup_words.proofs.pair.Statement.{statement}
 use Rattle.setup_words.proofs.pair.Tie as tie
+
+-- where the word is known not to be the first, from where it was compared with the second
+abbrev not-lines : tie.After-same2 → tie.Else1
+not-lines c = c .before .before
 
 slice-aggregate-same : tie.Need-slice-aggregate-same
 slice-aggregate-same c = search needs
@@ -18,12 +22,31 @@ returns : tie.Need-returns
 unfolding paired
 returns c = rw (c .lines-by .ensures, sym (c .before .before .same .ensures), c .before .if1 .taken)
 
-mistaken-requires : tie.Need-mistaken-requires
-mistaken-requires c κs = search needs
+slice-aggregate-same-2 : tie.Need-slice-aggregate-same-2
+slice-aggregate-same-2 c = search needs
+
+same-requires-2 : tie.Need-same-requires-2
+same-requires-2 c κs = search needs
+
+bits-by-requires : tie.Need-bits-by-requires
+bits-by-requires c κs = search needs
 
 returns-2 : tie.Need-returns-2
 unfolding paired
-returns-2 c = rw (c .mistaken .ensures, sym (c .before .before .same .ensures), c .before .if1 .left)
+returns-2 c =
+    let b = c .before .before in
+    let a = not-lines b in
+    rw (c .bits-by .ensures, sym (a .before .same .ensures), a .if1 .left, sym (b .same2 .ensures), c .before .if2 .taken)
+
+mistaken-requires : tie.Need-mistaken-requires
+mistaken-requires c κs = search needs
+
+returns-3 : tie.Need-returns-3
+unfolding paired
+returns-3 c =
+    let b = c .before .before in
+    let a = not-lines b in
+    rw (c .mistaken .ensures, sym (a .before .same .ensures), a .if1 .left, sym (b .same2 .ensures), c .before .if2 .left)
 
 pub pair-spec : {M : Type 1} → statement M
 pair-spec =
@@ -33,5 +56,9 @@ pair-spec =
     same-requires
     lines-by-requires
     returns
+    slice-aggregate-same-2
+    same-requires-2
+    bits-by-requires
+    returns-2
     mistaken-requires
-    returns-2)
+    returns-3)

@@ -6,13 +6,16 @@ use Rattle.vectors.proofs.main.Statement.{statement}
 use Rattle.vectors.proofs.main.Tie as tie
 
 abbrev Inv-loop : tie.InvT-loop
-Inv-loop pairs way₀ agreed₀ vectors₀ k₀ way agreed vectors k = (k ≤ pairs) × (vectors ≤ k) × (agreed ≤ vectors)
+Inv-loop pairs way₀ words₀ naming₀ agreed₀ vectors₀ k₀ way words naming agreed vectors k = (k ≤ pairs) × (vectors ≤ k) × (agreed ≤ vectors)
 
 abbrev μ-loop : tie.MeasureT-loop
-μ-loop pairs way₀ agreed₀ vectors₀ k₀ way agreed vectors k = pairs - k
+μ-loop pairs way₀ words₀ naming₀ agreed₀ vectors₀ k₀ way words naming agreed vectors k = pairs - k
 
 arg-count-requires : tie.Need-arg-count-requires Inv-loop μ-loop
 arg-count-requires c κs = search needs
+
+start-requires : tie.Need-start-requires Inv-loop μ-loop
+start-requires c κs = search needs
 
 loop-holds : tie.Need-loop-holds Inv-loop μ-loop
 loop-holds c = omega arith
@@ -29,8 +32,11 @@ add-k c = omega arith
 is-word-requires : tie.Need-is-word-requires Inv-loop μ-loop
 is-word-requires c κs = search needs
 
+continued-requires : tie.Need-continued-requires Inv-loop μ-loop
+continued-requires c κs = omega arith
+
 named-requires : tie.Need-named-requires Inv-loop μ-loop
-named-requires c κs = omega arith
+named-requires c κs = search needs
 
 loop-less : tie.Need-loop-less Inv-loop μ-loop
 loop-less c = omega arith
@@ -66,11 +72,13 @@ main-spec =
     Inv-loop
     μ-loop
     arg-count-requires
+    start-requires
     loop-holds
     mul-i
     add-i
     add-k
     is-word-requires
+    continued-requires
     named-requires
     loop-less
     loop-again

@@ -1,5 +1,9 @@
--- The places that are lent are the view's: where that is more than the chip's own, their number is wrong.
-use mathlib.Core.Path.{_∙_}
+-- The chip is tested first. The places that are lent are the view's: where that is more than the chip's own, their number is wrong.
+use mathlib.Core.Path.{_≡_, sym, ap, _∙_}
+use mathlib.Core.Bool.{Bool, false, _&&_}
+use borrow.Author.Tests.{not-true, not-false}
+use Rattle.bools.specs.Tests.{and-last}
+use Rattle.rules.specs.Chip.{fits}
 use Rattle.rules.specs.Sound.{isSound}
 use Rattle.any_chip.specs.View.{firstPlaces}
 use Rattle.any_chip.specs.ViewLaws.{Sized}
@@ -9,23 +13,36 @@ use Rattle.any_chip.proofs.State.is_sound.Statement.{statement}
 use Rattle.any_chip.proofs.State.is_sound.Tie as tie
 
 -- earlier places of the function, from later ones
-abbrev reached : tie.After-chip → tie.After-reach
-reached c = c .before .before .before .before .before .before .before .before
+abbrev reached : tie.After-core → tie.After-reach
+reached c = c .before .before .before .before .before .before .before
 
-abbrev begun : tie.After-chip → tie.Start
-begun c = reached c .before .before
+abbrev named : tie.After-core → tie.After-chip
+named c = reached c .before .before .before
+
+abbrev begun : tie.After-core → tie.Start
+begun c = named c .before .before
 
 sized : (c : tie.Start) → Sized (c .args .self)
 sized c = record { pending = search needs; active = search needs; enabled = search needs; level = search needs; priority = search needs; nest = search needs }
 
-lent : (c : tie.After-chip) → Within (reached c .reach .result) (begun c .args .self)
+lent : (c : tie.After-core) → Within (reached c .reach .result) (begun c .args .self)
 lent c = within (begun c .args .self) (sized (begun c)) (reached c .reach .result) (reached c .reach .ensures)
 
-reach-requires : tie.Need-reach-requires
-reach-requires c κs = search needs
+-- one test that fails
+first-fails : {a : Bool} (b : Bool) → a ≡ false → false ≡ (a && b)
+first-fails b e = rw e
 
 chip-requires : tie.Need-chip-requires
 chip-requires c κs = search needs
+
+fits-requires : tie.Need-fits-requires
+fits-requires c κs = search needs
+
+returns : tie.Need-returns
+returns c = first-fails _ (ap fits (sym (c .before .before .chip .ensures)) ∙ sym (c .before .fits2 .ensures) ∙ not-true _ (c .if1 .taken))
+
+reach-requires : tie.Need-reach-requires
+reach-requires c κs = search needs
 
 array-share-prefix-pending : tie.Need-array-share-prefix-pending
 array-share-prefix-pending c = lent c .pending
@@ -66,17 +83,23 @@ slice-aggregate-is-sound-6 c = front _ _ (lent (c .before .before .before .befor
 is-sound-requires : tie.Need-is-sound-requires
 is-sound-requires c κs = search needs
 
-returns : tie.Need-returns
-returns c =
+returns-2 : tie.Need-returns-2
+returns-2 c =
     let k = c .before .before .before .before .before .before .before in
-    c .is-sound .ensures ∙ (λ i. isSound (k .chip .ensures i) (firstPlaces (reached k .reach .ensures i) (begun k .args .self)))
+    let s = begun k .args .self in
+    let e = reached k .before in
+    c .is-sound .ensures
+    ∙ (λ i. isSound (named k .chip .ensures i) (firstPlaces (reached k .reach .ensures i) s))
+    ∙ and-last (ap fits (sym (named k .chip .ensures)) ∙ sym (e .before .fits2 .ensures) ∙ not-false _ (e .if1 .left))
 
 pub is-sound-spec : {M : Type 1} → statement M
 is-sound-spec =
     tie.close
     (tie.spec
-    reach-requires
     chip-requires
+    fits-requires
+    returns
+    reach-requires
     array-share-prefix-pending
     slice-aggregate-is-sound
     array-share-prefix-active
@@ -90,4 +113,4 @@ is-sound-spec =
     array-share-prefix-nest
     slice-aggregate-is-sound-6
     is-sound-requires
-    returns)
+    returns-2)

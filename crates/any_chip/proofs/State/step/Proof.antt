@@ -1,10 +1,10 @@
 -- The chip's places of each array are lent and taken back.
 use mathlib.Core.Path.{_≡_, sym, _∙_, subst}
-use Rattle.guarded.specs.Fits.{Fits}
+use Rattle.guarded.specs.FewLines.{FewLines}
 use Rattle.places.specs.Places.{Blocks}
 use Rattle.any_chip.specs.View.{reachIn}
 use Rattle.any_chip.specs.ViewLaws.{Sized}
-use Rattle.any_chip.proofs.View.{setup-fits, setup-blocks, reached-in, Within, within, front, step-back}
+use Rattle.any_chip.proofs.View.{few-lines, setup-blocks, reached-in, Within, within, front, step-back}
 use borrow.Author.Needs.{needs}
 use Rattle.any_chip.proofs.State.step.Statement.{statement}
 use Rattle.any_chip.proofs.State.step.Tie as tie
@@ -79,7 +79,7 @@ slice-aggregate-step-6 : tie.Need-slice-aggregate-step-6
 slice-aggregate-step-6 c = front _ _ (lent (c .before .before .before .before .before .before) .nest)
 
 step-requires : tie.Need-step-requires
-step-requires c κs = let k = c .before .before .before .before .before .before in subst Fits (sym (named k .chip .ensures)) (setup-fits (begun k .args .self .setup))
+step-requires c κs = let k = c .before .before .before .before .before .before in subst FewLines (sym (named k .chip .ensures)) (few-lines (begun k .args .self .setup))
 
 returns : tie.Need-returns
 returns c =
