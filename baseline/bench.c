@@ -14,6 +14,7 @@ typedef struct { int lines, bits; } Setup; /* which chip: its lines, and how man
 
 typedef struct {
     uint8_t pending[FLAGS], active[FLAGS], enabled[FLAGS], level[FLAGS], priority[FLAGS], nest[NEST];
+    uint16_t lost[FLAGS]; /* the rises that found the line pending, held at 65,535 */
     int lines, depth;
     uint32_t kept; /* the bits of a priority byte and of BASEPRI that the chip keeps */
     uint32_t group, basepri, primask, faultmask, npriv, spsel;
@@ -232,10 +233,15 @@ static Answer write_event(Model *m, uint32_t w, uint32_t a, uint32_t v) {
 
 static Answer line_event(Model *m, uint32_t line, uint32_t level) {
     if (line >= (uint32_t)m->lines || level > 1) return refuse(6);
-    if (level && !m->level[16 + line]) m->pending[16 + line] = 1;
+    if (level && !m->level[16 + line]) {
+        if (m->pending[16 + line] && m->lost[16 + line] < 65535) m->lost[16 + line]++;
+        m->pending[16 + line] = 1;
+    }
     m->level[16 + line] = (uint8_t)level;
     return done(0);
 }
+
+static Answer lost_event(const Model *m, uint32_t line) { return line >= (uint32_t)m->lines ? refuse(6) : done(m->lost[16 + line]); }
 
 static Answer tick_event(Model *m) {
     if (!(m->st_control & 1)) return done(0);
@@ -353,7 +359,7 @@ static int number(const uint8_t *s, size_t n, size_t *at, uint32_t *out) {
     return 0;
 }
 
-static const int argument_count[12] = {0, 2, 3, 2, 0, 0, 2, 0, 2, 0, 1, 3};
+static const int argument_count[13] = {0, 2, 3, 2, 0, 0, 2, 0, 2, 0, 1, 3, 1};
 
 static Answer step(Model *m, uint32_t kind, const uint32_t *a) {
     switch (kind) {
@@ -367,7 +373,8 @@ static Answer step(Model *m, uint32_t kind, const uint32_t *a) {
     case 8: return special_event(m, a[0], a[1]);
     case 9: return entry_event(m);
     case 10: return return_event(m, a[0]);
-    default: return access_event(m, a[0], a[1], a[2]);
+    case 11: return access_event(m, a[0], a[1], a[2]);
+    default: return lost_event(m, a[0]);
     }
 }
 
@@ -386,6 +393,7 @@ INLINE int sound_numbers(const Model *m, int lines) {
         if (m->level[n] && !is_line(n)) return 0;
         if (m->priority[n] & ~(has_byte(lines, n) ? m->kept : 0)) return 0;
     }
+    for (int n = 0; !is_line(n); n++) if (m->lost[n]) return 0; /* apart: the loop over every number would be slower */
     return 1;
 }
 
@@ -448,7 +456,7 @@ static uint32_t run(Setup setup, const uint8_t *s, size_t n, int print, uint64_t
         uint32_t kind, a[3] = {0, 0, 0};
         *bad = at;
         if (!number(s, n, &at, &kind)) return 13;
-        if (kind < 1 || kind > 11) return 14;
+        if (kind < 1 || kind > 12) return 14;
         for (int i = 0; i < argument_count[kind]; i++) if (!number(s, n, &at, &a[i])) return 13;
         Answer r = print || sound(&m) ? step(&m, kind, a) : refuse(16);
         *sum += r.refusal + r.value;

@@ -1,8 +1,8 @@
 """Random scripts of the events of documents 01 and 02, the same for the same seed: mostly sensible arguments, some out of range.
 
 A script is made for a chip of 55 or 240 lines and may be run on either, whatever it keeps of a priority byte. Those for 55 lines that keep
-no proviso, have no deep nest and are not about the memory guard or priorities near each other stay what they are, so that measurements can
-be compared.
+no proviso, have no deep nest and are not about the memory guard, priorities near each other or lost pulses stay what they are, so that
+measurements can be compared. Counts of lost pulses (kind 12) are asked for only in the scripts about these.
 """
 import random
 
@@ -15,6 +15,7 @@ KINDS = {  # the rarer the NMI, the more of the lines is seen
     240: [1, 2, 2, 2, 3, 3, 3, 5, 6, 7, 8, 9, 9, 9, 10, 10, 10, 11] * 4 + [4],
 }
 EDGES = {55: [55], 240: [54, 55, 239, 240, 255, 256]}  # lines at the chips' ends, and past them
+PAST = [54, 55, 239, 240, 255, 256, 0xFFFFFFFF]  # the same, whatever the chip
 
 # What E4's proviso leaves out, first and last byte. The word at E434 reaches into the last of them.
 NOT_OLD = [(0xE000E004, 0xE000E004), *((b + 4, b + 0x1F) for b in BANKS), (0xE000E437, 0xE000E4EF), (0xE000ED08, 0xE000ED08)]
@@ -189,9 +190,57 @@ def prioritised(r, lines):
             yield from ([8, 4, 1], *masking(r, byte), *showing(r, byte, first), [7], [9], [8, 4, 0], [10, 0xFFFFFFF9])
 
 
+def by_software(r, line):
+    """A write that makes the line pending, clears that, or enables or disables it."""
+    word, bit = line // 32 * 4, 1 << line % 32
+    made = r.choice([[0xE000E200 + word, bit], [SWTRIG, line | r.choice([0, 0, 512])]])
+    cleared = [0xE000E280 + word, r.choice([bit, bit, 0xFFFFFFFF])]
+    return [2, 4, *r.choice([made, made, cleared, [0xE000E100 + word, bit], [0xE000E180 + word, bit]])]
+
+
+def pulsing(r, few):
+    """An event or more about the pulses of a few lines. Levels are the most of them: one that stays or is refused counts nothing."""
+    line, what = r.choice(few), r.randrange(20)
+    if what < 5:
+        return [[3, line, 1], [3, line, 0]] * r.choice([1, 1, 2, 5])
+    if what < 8:
+        return [[3, line, r.choice([0, 1, 1, 1, 2])]]
+    if what < 9:
+        return [[3, r.choice(PAST), r.choice([0, 1, 1, 2])]]
+    if what < 11:
+        return [by_software(r, line)]
+    if what < 14:
+        return [[12, r.choice([*few, *few, r.choice(PAST)])]]
+    if what < 15:
+        return [[1, 4, r.choice(BANKS) + line // 32 * 4]]
+    if what < 16:
+        return [r.choice([[4], [5], [7]])]
+    return [[9]] if what < 18 else [[10, r.choice([0xFFFFFFF1, 0xFFFFFFF9, 0xFFFFFFFD])]]
+
+
+def pulsed(r, lines):
+    """Pulses of six lines, of one to three of them at a time, over and over; in handlers too, which nest by other priorities each time, and
+    every second time also unprivileged."""
+    six = [0, 54, lines - 1, r.randrange(55), r.randrange(lines), r.randrange(lines)]
+    while True:
+        few = r.sample(six, r.choice([1, 2, 3]))
+        for line in few:
+            yield from ([2, 4, 0xE000E100 + line // 32 * 4, 1 << line % 32], [2, 1, 0xE000E400 + line, r.randrange(256)])
+        for _ in range(r.randrange(60)):
+            yield from pulsing(r, few)
+        if r.randrange(2):
+            yield [8, 4, 1]
+            for _ in range(r.randrange(20)):
+                yield from pulsing(r, few)
+            yield from ([7], [9], [8, 4, 0])
+        yield from ([10, 0xFFFFFFF1] for _ in range(r.randrange(4)))
+        yield [10, 0xFFFFFFF9]
+        yield from ([12, line] for line in six)
+
+
 def is_old(event):
     """Whether E4's proviso lets the event stand in an old script."""
-    if event[0] == 3:
+    if event[0] in (3, 12):
         return event[1] <= 54
     if event[0] in (1, 2):
         width, address = event[1:3]
@@ -211,11 +260,11 @@ def events(r, lines, deep):
             yield shown(*one[1:])
 
 
-def script(seed, length, lines=55, old=False, deep=False, guard=False, bits=False):
-    """At most `length` bytes of whole events; only those of an old script, with a deep nest first, or about the guard or priorities near
-    each other, if so asked."""
+def script(seed, length, lines=55, old=False, deep=False, guard=False, bits=False, pulses=False):
+    """At most `length` bytes of whole events; only those of an old script, with a deep nest first, or about the guard, priorities near
+    each other or lost pulses, if so asked."""
     out, r = bytearray(), random.Random(seed)
-    for one in guarded(r) if guard else prioritised(r, lines) if bits else events(r, lines, deep):
+    for one in guarded(r) if guard else prioritised(r, lines) if bits else pulsed(r, lines) if pulses else events(r, lines, deep):
         if old and not is_old(one):
             continue
         more = b"".join(number(n) for n in one)

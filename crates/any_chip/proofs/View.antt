@@ -3,7 +3,7 @@ use Prim.Native.Nat.{ℕ, _+_, _-_, _≤_}
 use mathlib.Core.Path.{_≡_, refl, sym, ap, _∙_, subst}
 use mathlib.Core.Logic.{inl, inr}
 use mathlib.Core.List.{List, _++_}
-use mathlib.Core.Bool.{Bool, false, not, _||_}
+use mathlib.Core.Bool.{false, not, _||_}
 use native.Mathlib.Omega.{arith}
 use lib.ListN.{length, getD, take, drop, replicate, length-replicate, replicate-append-replicate}
 use lib.Seq.{length-take-le}
@@ -15,12 +15,11 @@ use Rattle.rules.specs.declared.Part.{Part}
 use Rattle.rules.specs.declared.Part.the-variants.{Lines55, Lines240}
 use Rattle.rules.specs.declared.Setup.{Setup}
 use Rattle.rules.specs.declared.Core.{Core}
-use Rattle.rules.specs.declared.Outcome.{Outcome}
 use Rattle.rules.specs.Chip.{partChip, withBits, chipOf, fits, flagCount, exceptionCount}
-use Rattle.rules.specs.Model.{Model, Answer, fresh, freshCore, withCore}
-use Rattle.rules.specs.Lent.{modelOf, answer}
+use Rattle.rules.specs.Model.{Model, Answer, fresh, freshCore}
+use Rattle.rules.specs.Lent.{modelOf}
 use Rattle.rules.specs.Sound.{isSound, Sound}
-use Rattle.rules.specs.Step.{guarded, admitted, actOf, stepOf}
+use Rattle.rules.specs.Step.{guarded, admitted, stepOf}
 use Rattle.places.specs.declared.Reach.{Reach}
 use Rattle.places.specs.Places.{nonzero, occupied, Blocks, reachOf, padded}
 use Rattle.guarded.specs.FewLines.{FewLines}
@@ -55,17 +54,20 @@ nest-fits s = fit (s .part)
     fit Lines55 = omega arith
     fit Lines240 = omega arith
 
+pub lines-fit : (s : Setup) → chipOf s .lines ≤ 240
+lines-fit s = few-lines s .lines
+
 pub setup-blocks : (s : Setup) → Blocks (chipOf s)
 setup-blocks s = blocks (s .part)
   where
     blocks : (p : Part) → Blocks (withBits (s .bits) (partChip p))
-    blocks Lines55 = record { flags = inl (omega arith); nest = inl (omega arith) }
-    blocks Lines240 = record { flags = inr refl; nest = inr refl }
+    blocks Lines55 = record { flags = inl (omega arith); nest = inl (omega arith); lost = inl (omega arith) }
+    blocks Lines240 = record { flags = inr refl; nest = inr refl; lost = inr refl }
 
 -- ---- what is lent is the view's, and within its array
 
-pub reached-in : (s : State) {c : Chip} → c ≡ chipOf (s .setup) → reachOf c (s .pending) (s .active) (s .enabled) (s .level) (s .priority) (s .nest) ≡ reachIn s
-reached-in s ch = ap (λ (k : Chip). reachOf k (s .pending) (s .active) (s .enabled) (s .level) (s .priority) (s .nest)) ch
+pub reached-in : (s : State) {c : Chip} → c ≡ chipOf (s .setup) → reachOf c (s .pending) (s .active) (s .enabled) (s .level) (s .priority) (s .nest) (s .lost) ≡ reachIn s
+reached-in s ch = ap (λ (k : Chip). reachOf k (s .pending) (s .active) (s .enabled) (s .level) (s .priority) (s .nest) (s .lost)) ch
 
 pub record Within (r : Reach) (s : State) : Type 0 where
   pub pending : r .places ≤ length (s .pending)
@@ -74,11 +76,13 @@ pub record Within (r : Reach) (s : State) : Type 0 where
   pub level : r .places ≤ length (s .level)
   pub priority : r .places ≤ length (s .priority)
   pub nest : r .nest ≤ length (s .nest)
+  pub lost : r .lost ≤ length (s .lost)
 
 pub within : (s : State) → Sized s → (r : Reach) → r ≡ reachIn s → Within r s
 within s z r q =
     let f : r .places ≤ 256 = subst (λ (x : Reach). x .places ≤ 256) (sym q) (reach-fits _ _ 256 (flags-fit (s .setup))) in
     let g : r .nest ≤ 248 = subst (λ (x : Reach). x .nest ≤ 248) (sym q) (reach-fits _ _ 248 (nest-fits (s .setup))) in
+    let l : r .lost ≤ 240 = subst (λ (x : Reach). x .lost ≤ 240) (sym q) (reach-fits _ _ 240 (lines-fit (s .setup))) in
     record {
       pending = omega (arith, z .pending);
       active = omega (arith, z .active);
@@ -86,6 +90,7 @@ within s z r q =
       level = omega (arith, z .level);
       priority = omega (arith, z .priority);
       nest = omega (arith, z .nest);
+      lost = omega (arith, z .lost);
     }
 
 -- a part that is lent has as many places as were asked for
@@ -126,6 +131,7 @@ back s z =
       level = whole false (s .level) _ (no-level s) 256 n (z .level) f i;
       priority = whole 0 (s .priority) _ (no-priority s) 256 n (z .priority) f i;
       nest = whole 0 (s .nest) _ (free-byte (s .nest)) 248 (exceptionCount (chipOf (s .setup))) (z .nest) (nest-fits (s .setup)) i;
+      lost = whole 0 (s .lost) _ (free-byte (s .lost)) 240 (chipOf (s .setup) .lines) (z .lost) (lines-fit (s .setup)) i;
       core = s .core;
     }
 
@@ -136,13 +142,15 @@ viewed setup m h =
     let s = state setup m in
     let none : (j : ℕ) → occupied (s .pending) (s .active) (s .enabled) (s .level) (s .priority) (n + j) ≡ false =
     λ j i. ((clear-past n 256 (m .pending) false (h .pending .size) j i || clear-past n 256 (m .active) false (h .active .size) j i) || (clear-past n 256 (m .enabled) false (h .enabled .size) j i || clear-past n 256 (m .level) false (h .level .size) j i)) || not (eqb (clear-past n 256 (m .priority) 0 (h .priority .size) j i) 0) in
-    let r : reachIn s ≡ record { places = n; nest = x } =
+    let l = chipOf setup .lines in
+    let r : reachIn s ≡ record { places = n; nest = x; lost = l } =
     λ i. record {
       places = reach-clear (occupied (s .pending) (s .active) (s .enabled) (s .level) (s .priority)) n 256 none i;
       nest = reach-clear (nonzero (s .nest)) x 248 (λ j. ap (λ (b : ℕ). not (eqb b 0)) (clear-past x 248 (m .nest) 0 (h .places .size) j)) i;
+      lost = reach-clear (nonzero (s .lost)) l 240 (λ j. ap (λ (b : ℕ). not (eqb b 0)) (clear-past l 240 (m .lost) 0 (h .lost .size) j)) i;
     } in
     ap (λ (k : Reach). firstPlaces k s) r
-    ∙ (λ i. modelOf (first n 256 (m .pending) false (h .pending .size) i) (first n 256 (m .active) false (h .active .size) i) (first n 256 (m .enabled) false (h .enabled .size) i) (first n 256 (m .level) false (h .level .size) i) (first n 256 (m .priority) 0 (h .priority .size) i) (first x 248 (m .nest) 0 (h .places .size) i) (m .core))
+    ∙ (λ i. modelOf (first n 256 (m .pending) false (h .pending .size) i) (first n 256 (m .active) false (h .active .size) i) (first n 256 (m .enabled) false (h .enabled .size) i) (first n 256 (m .level) false (h .level .size) i) (first n 256 (m .priority) 0 (h .priority .size) i) (first x 248 (m .nest) 0 (h .places .size) i) (first l 240 (m .lost) 0 (h .lost .size) i) (m .core))
 
 pub view-laws : ViewLaws
 view-laws = record { back = back; viewed = viewed }
@@ -155,7 +163,7 @@ fresh-list size n clear h =
     sym (ap (λ (k : ℕ). replicate n clear ++ replicate (size - k) clear) (length-replicate n clear) ∙ replicate-append-replicate n (size - n) clear ∙ ap (λ (k : ℕ). replicate k clear) e)
 
 abbrev clearState : Setup → Core → State
-clearState s k = record { setup = s; pending = replicate 256 false; active = replicate 256 false; enabled = replicate 256 false; level = replicate 256 false; priority = replicate {A = ℕ} 256 0; nest = replicate {A = ℕ} 248 0; core = k }
+clearState s k = record { setup = s; pending = replicate 256 false; active = replicate 256 false; enabled = replicate 256 false; level = replicate 256 false; priority = replicate {A = ℕ} 256 0; nest = replicate {A = ℕ} 248 0; lost = replicate {A = ℕ} 240 0; core = k }
 
 pub fresh-state : (s : Setup) (k : Core) → k ≡ freshCore → clearState s k ≡ state s (fresh (chipOf s))
 unfolding fresh
@@ -163,7 +171,8 @@ fresh-state s k q =
     let flags : replicate 256 false ≡ padded 256 false (replicate (flagCount (chipOf s)) false) = fresh-list 256 (flagCount (chipOf s)) false (flags-fit s) in
     let bytes : replicate {A = ℕ} 256 0 ≡ padded 256 0 (replicate (flagCount (chipOf s)) 0) = fresh-list 256 (flagCount (chipOf s)) 0 (flags-fit s) in
     let nest : replicate {A = ℕ} 248 0 ≡ padded 248 0 (replicate (exceptionCount (chipOf s)) 0) = fresh-list 248 (exceptionCount (chipOf s)) 0 (nest-fits s) in
-    λ i. record { setup = s; pending = flags i; active = flags i; enabled = flags i; level = flags i; priority = bytes i; nest = nest i; core = q i }
+    let lost : replicate {A = ℕ} 240 0 ≡ padded 240 0 (replicate (chipOf s .lines) 0) = fresh-list 240 (chipOf s .lines) 0 (lines-fit s) in
+    λ i. record { setup = s; pending = flags i; active = flags i; enabled = flags i; level = flags i; priority = bytes i; nest = nest i; lost = lost i; core = q i }
 
 -- ---- an event keeps each list's length, on a sound model or not
 
@@ -174,9 +183,10 @@ pub record SameLengths (m t : Model) : Type 0 where
   pub level : length (m .level) ≡ length (t .level)
   pub priority : length (m .priority) ≡ length (t .priority)
   pub nest : length (m .nest) ≡ length (t .nest)
+  pub lost : length (m .lost) ≡ length (t .lost)
 
 pub unchanged : (m : Model) → SameLengths m m
-unchanged m = record { pending = refl; active = refl; enabled = refl; level = refl; priority = refl; nest = refl }
+unchanged m = record { pending = refl; active = refl; enabled = refl; level = refl; priority = refl; nest = refl; lost = refl }
 
 pub both-sound : {c : Chip} {m t : Model} → Sound c m → Sound c t → SameLengths m t
 both-sound h k =
@@ -187,6 +197,7 @@ both-sound h k =
       level = h .level .size ∙ sym (k .level .size);
       priority = h .priority .size ∙ sym (k .priority .size);
       nest = h .places .size ∙ sym (k .places .size);
+      lost = h .lost .size ∙ sym (k .lost .size);
     }
 
 kept-lengths : (c : Chip) (m : Model) (e : Event) → SameLengths (stepOf c m e .next) m
@@ -211,6 +222,7 @@ restored r s m =
       level = m .level ++ drop (r .places) (s .level);
       priority = m .priority ++ drop (r .places) (s .priority);
       nest = m .nest ++ drop (r .nest) (s .nest);
+      lost = m .lost ++ drop (r .lost) (s .lost);
       core = m .core;
     }
 
@@ -226,6 +238,7 @@ put-back s z m h =
       level = put false (s .level) _ (no-level s) 256 n (m .level) (z .level) f (h .level) i;
       priority = put 0 (s .priority) _ (no-priority s) 256 n (m .priority) (z .priority) f (h .priority) i;
       nest = put 0 (s .nest) _ (free-byte (s .nest)) 248 (exceptionCount (chipOf (s .setup))) (m .nest) (z .nest) (nest-fits (s .setup)) (h .nest) i;
+      lost = put 0 (s .lost) _ (free-byte (s .lost)) 240 (chipOf (s .setup) .lines) (m .lost) (z .lost) (lines-fit (s .setup)) (h .lost) i;
       core = m .core;
     }
 

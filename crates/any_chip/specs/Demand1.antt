@@ -23,7 +23,7 @@ pub record Refused (e : Event) (s : State) (r : Reply) : Type 0 where
   pub state : r .state ≡ s
 
 -- The equation is the contract of `step`, and of the call of the event's own kind: read, write, line, nmi, tick, fault, svc, special,
--- entry, return_, access. The state is any: with something past its chip's places too.
+-- entry, return_, access, lost. The state is any: with something past its chip's places too.
 pub record CodeDemand1 : Type 0 where
   pub events : (s : State) → Sized s → (e : Event) (r : Reply) → r ≡ reply (s .setup) (stepOf (chipOf (s .setup)) (model s) e) → (r .refusal ≡ 0) ⊎ Refused e s r
   -- document 02, E7: "17, a chip setup with w outside 3 to 8, checked before all others, 15 and 16 too": in exactly that case, whatever the state is

@@ -1,4 +1,4 @@
--- A state by value has arrays of 256 places (248 of the nest) whatever its chip; the rules' lists have a place for each number of the
+-- A state by value has arrays of 256 places (248 of the nest, 240 of the counts) whatever its chip; the rules' lists have a place for each number of the
 -- chip. The places past those are clear: a state that holds something there is not sound.
 use mathlib.Core.Bool.{false}
 use lib.ListN.{take}
@@ -13,12 +13,12 @@ use Rattle.any_chip.specs.declared.Reply.{Reply}
 
 -- how many places of its arrays are the chip's lists
 abbrev pub reachIn : State → Reach
-reachIn s = reachOf (chipOf (s .setup)) (s .pending) (s .active) (s .enabled) (s .level) (s .priority) (s .nest)
+reachIn s = reachOf (chipOf (s .setup)) (s .pending) (s .active) (s .enabled) (s .level) (s .priority) (s .nest) (s .lost)
 
 -- the first places of each array
 abbrev pub firstPlaces : Reach → State → Model
 firstPlaces r s =
-    modelOf (take (r .places) (s .pending)) (take (r .places) (s .active)) (take (r .places) (s .enabled)) (take (r .places) (s .level)) (take (r .places) (s .priority)) (take (r .nest) (s .nest)) (s .core)
+    modelOf (take (r .places) (s .pending)) (take (r .places) (s .active)) (take (r .places) (s .enabled)) (take (r .places) (s .level)) (take (r .places) (s .priority)) (take (r .nest) (s .nest)) (take (r .lost) (s .lost)) (s .core)
 
 abbrev pub model : State → Model
 model s = firstPlaces (reachIn s) s
@@ -34,6 +34,7 @@ state setup m =
       level = padded 256 false (m .level);
       priority = padded 256 0 (m .priority);
       nest = padded 248 0 (m .nest);
+      lost = padded 240 0 (m .lost);
       core = m .core;
     }
 

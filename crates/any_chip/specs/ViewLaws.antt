@@ -16,6 +16,7 @@ pub record Sized (s : State) : Type 0 where
   pub level : length (s .level) ≡ 256
   pub priority : length (s .priority) ≡ 256
   pub nest : length (s .nest) ≡ 248
+  pub lost : length (s .lost) ≡ 240
 
 pub record ViewLaws : Type 0 where
   -- every state, sound or not: so what refuses with its model refuses with the state as it was

@@ -2,7 +2,7 @@
 ghost use mathlib.Core.Path.{_≡_};
 ghost use Rattle.rules.specs.Chip.{chipOf};
 ghost use Rattle.rules.specs.Step.{stepOf};
-ghost use Rattle.script.specs.declared.Event.the-variants.{Read, Write, Line, Nmi, Tick, Fault, Svc, Special, Entry, Return, Access};
+ghost use Rattle.script.specs.declared.Event.the-variants.{Read, Write, Line, Nmi, Tick, Fault, Svc, Special, Entry, Return, Access, Lost};
 ghost use Rattle.script.specs.declared.AccessKind.the-variants.{Other};
 ghost use Rattle.any_chip.specs.View.{model, reply};
 use super::Reply;
@@ -23,8 +23,18 @@ impl State {
         let mut level = self.level;
         let mut priority = self.priority;
         let mut nest = self.nest;
+        let mut lost = self.lost;
         let core = self.core;
-        let reach = places::reach_of(chip, &pending, &active, &enabled, &level, &priority, &nest);
+        let reach = places::reach_of(
+            chip,
+            &pending,
+            &active,
+            &enabled,
+            &level,
+            &priority,
+            &nest,
+            &lost,
+        );
         let outcome = guarded::step(
             chip,
             &mut pending[..reach.places],
@@ -33,6 +43,7 @@ impl State {
             &mut level[..reach.places],
             &mut priority[..reach.places],
             &mut nest[..reach.nest],
+            &mut lost[..reach.lost],
             core,
             event,
         );
@@ -45,6 +56,7 @@ impl State {
             level,
             priority,
             nest,
+            lost,
             core: left,
         };
         Reply {
@@ -121,5 +133,12 @@ impl State {
         ensures { λ r. ⌜ r ≡ reply (self .setup) (stepOf (chipOf (self .setup)) (model self) (Access (Other kind) width address)) ⌝ }
     {
         self.step(Event::Access(AccessKind::Other(kind), width, address))
+    }
+
+    // How many rises of a line found it pending, 65,535 where there were more.
+    pub fn lost(self, line: u32) -> Reply
+        ensures { λ r. ⌜ r ≡ reply (self .setup) (stepOf (chipOf (self .setup)) (model self) (Lost line)) ⌝ }
+    {
+        self.step(Event::Lost(line))
     }
 }

@@ -12,8 +12,8 @@ use rules::Setup;
 
 pub mod calls;
 
-// Flags and priority bytes stand at exception numbers; the nest holds the active exceptions, the newest last. A chip has the first places
-// of each array, and the others are clear. `core` has the nest's depth and every part that holds no array of the chip's size.
+// Flags and priority bytes stand at exception numbers; the nest holds the active exceptions, the newest last; `lost` counts the rises
+// that each line lost. A chip has the first places of each array, and the others are clear. `core` has the nest's depth and every part that holds no array of the chip's size.
 pub struct State {
     pub setup: Setup,
     pub pending: [bool; 256],
@@ -22,6 +22,7 @@ pub struct State {
     pub level: [bool; 256],
     pub priority: [u8; 256],
     pub nest: [u8; 248],
+    pub lost: [u16; 240],
     pub core: Core,
 }
 
@@ -46,6 +47,7 @@ impl State {
             level: [false; 256],
             priority: [0; 256],
             nest: [0; 248],
+            lost: [0; 240],
             core: parts::fresh_core(),
         }
     }
@@ -62,6 +64,7 @@ impl State {
         let level = self.level;
         let priority = self.priority;
         let nest = self.nest;
+        let lost = self.lost;
         places::reach_of(
             setup.chip(),
             &pending,
@@ -70,6 +73,7 @@ impl State {
             &level,
             &priority,
             &nest,
+            &lost,
         )
     }
 
@@ -126,6 +130,7 @@ impl State {
         let level = self.level;
         let priority = self.priority;
         let nest = self.nest;
+        let lost = self.lost;
         let core = self.core;
         sound_state::is_sound(
             chip,
@@ -135,6 +140,7 @@ impl State {
             &level[..reach.places],
             &priority[..reach.places],
             &nest[..reach.nest],
+            &lost[..reach.lost],
             core,
         )
     }

@@ -1,6 +1,7 @@
-// Worked cases of document 02, E4 and E7, run by call on the state of any chip, a labelled line for each: what must be printed was worked out
+// Worked cases of document 02, E1, E4 and E7, run by call on the state of any chip, a labelled line for each: what must be printed was worked out
 // from documents 01 and 02. A case is a row of numbers, handed to a function that makes its state.
 mod nesting;
+mod pulses;
 mod registers;
 mod same;
 mod show;
@@ -18,6 +19,8 @@ fn main() {
     soundness::cases(Part::Lines240);
     nesting::nest(Part::Lines240);
     nesting::nest(Part::Lines55);
+    pulses::lost(Part::Lines55, 54, 55);
+    pulses::lost(Part::Lines240, 239, 240);
     widths::kept();
     widths::refused();
 }

@@ -11,6 +11,14 @@ fn same_place(a: State, b: State, i: usize) -> bool {
     a.nest[i] == b.nest[i]
 }
 
+// The count of line i, where there is one.
+fn same_count(a: State, b: State, i: usize) -> bool {
+    if 240 <= i {
+        return true;
+    }
+    a.lost[i] == b.lost[i]
+}
+
 // The flags and the priority byte of number i too.
 fn same_at(a: State, b: State, i: usize) -> bool
     requires { ⌜ i < 256 ⌝ }
@@ -28,6 +36,9 @@ fn same_at(a: State, b: State, i: usize) -> bool
         return false;
     }
     if a.priority[i] != b.priority[i] {
+        return false;
+    }
+    if !same_count(a, b, i) {
         return false;
     }
     same_place(a, b, i)

@@ -19,11 +19,12 @@ enum Field {
     Level,
     Priority,
     Nest,
+    Lost,
 }
 
-// A flag, priority byte or place of the nest put into a state.
+// A flag, priority byte, place of the nest or count put into a state.
 fn poked(mut s: State, field: Field, i: usize) -> State
-    requires { ⌜ i < 248 ⌝ }
+    requires { ⌜ i < 240 ⌝ }
 {
     match field {
         Field::Pending => s.pending[i] = true,
@@ -32,11 +33,12 @@ fn poked(mut s: State, field: Field, i: usize) -> State
         Field::Level => s.level[i] = true,
         Field::Priority => s.priority[i] = 0x20,
         Field::Nest => s.nest[i] = 20,
+        Field::Lost => s.lost[i] = 1,
     }
     s
 }
 
-// The eleven calls, then `step`. Most of them would be refused by another number after 16.
+// The twelve calls, then `step`. Most of them would be refused by another number after 16.
 fn called(s: State, call: u32) -> Reply {
     match call {
         0 => s.read(3, 0xe000e001),
@@ -50,6 +52,7 @@ fn called(s: State, call: u32) -> Reply {
         8 => s.entry(),
         9 => s.return_(0xfffffff9),
         10 => s.access(3, 3, 1),
+        11 => s.lost(300),
         _ => s.step(Event::Tick),
     }
 }
@@ -66,7 +69,7 @@ fn refused(before: State, r: Reply) {
 
 fn every_call(s: State) {
     let mut call: u32 = 0;
-    while call < 12 {
+    while call < 13 {
         refused(s, called(s, call));
         call += 1;
     }
@@ -84,7 +87,7 @@ pub fn tried(label: &[u8], s: State) {
 }
 
 fn place(label: &[u8], part: Part, field: Field, i: usize)
-    requires { ⌜ i < 248 ⌝ }
+    requires { ⌜ i < 240 ⌝ }
 {
     tried(label, poked(chip(part), field, i));
 }
@@ -114,7 +117,7 @@ fn table(label: &[u8], part: Part, vtable: u32) {
     tried(label, s);
 }
 
-// The old chip has numbers 0 to 70 and 63 places of the nest, the new one 0 to 255 and 248; 7 is no exception. Bit 9 of VTABLE is kept by the
+// The old chip has numbers 0 to 70, 63 places of the nest and 55 lines, the new one 0 to 255, 248 and 240; 7 is no exception. Bit 9 of VTABLE is kept by the
 // old chip only, bit 30 by neither.
 pub fn cases(part: Part) {
     place(b"pending at 100", part, Field::Pending, 100);
@@ -123,6 +126,9 @@ pub fn cases(part: Part) {
     place(b"level at 100", part, Field::Level, 100);
     place(b"priority 0x20 at 100", part, Field::Priority, 100);
     place(b"nest place 100", part, Field::Nest, 100);
+    place(b"count 1 of line 54", part, Field::Lost, 54);
+    place(b"count 1 of line 55", part, Field::Lost, 55);
+    place(b"count 1 of line 239", part, Field::Lost, 239);
     nested(part);
     place(b"pending at 7", part, Field::Pending, 7);
     table(b"VTABLE 0x200 in the state", part, 0x200);

@@ -51,6 +51,7 @@ pub fn run_some(script: &[u8], progress: Progress, out: &mut [u8]) -> Progress
     let mut level = state.level;
     let mut priority = state.priority;
     let mut nest = state.nest;
+    let mut lost = state.lost;
     let core = state.core;
     let course = Course {
         core,
@@ -69,6 +70,7 @@ pub fn run_some(script: &[u8], progress: Progress, out: &mut [u8]) -> Progress
         &mut level[..reach.places],
         &mut priority[..reach.places],
         &mut nest[..reach.nest],
+        &mut lost[..reach.lost],
         course,
         out,
     );
@@ -81,6 +83,7 @@ pub fn run_some(script: &[u8], progress: Progress, out: &mut [u8]) -> Progress
         level,
         priority,
         nest,
+        lost,
         core: left,
     };
     Progress {

@@ -81,6 +81,10 @@ and-true-of p q = simp (p, q)
 pub and-last : {a b : Bool} → a ≡ true → b ≡ (a && b)
 and-last p = simp p
 
+pub and-true : (b : Bool) → (b && true) ≡ b
+and-true true = refl
+and-true false = refl
+
 pub and-false-of : (a b : Bool) → b ≡ false → (a && b) ≡ false
 and-false-of true b e = e
 and-false-of false b e = refl

@@ -49,7 +49,7 @@ fn parsed(line: &[u8]) -> Command {
     }
 }
 
-// By the call of the event's kind. What is none of the first ten is an access.
+// By the call of the event's kind. What is none of these eleven is an access.
 fn called(s: State, k: Command) -> Reply {
     let name = k.name;
     match name {
@@ -63,6 +63,7 @@ fn called(s: State, k: Command) -> Reply {
         0x73706563 => s.special(k.a, k.b), // spec
         0x656e7472 => s.entry(), // entr
         0x72657475 => s.return_(k.a), // retu
+        0x6c6f7374 => s.lost(k.a), // lost
         _ => s.access(k.a, k.b, k.c),
     }
 }
@@ -80,6 +81,7 @@ fn event(k: Command) -> Event {
         0x73706563 => Event::Special(k.a, k.b),
         0x656e7472 => Event::Entry,
         0x72657475 => Event::Return(k.a),
+        0x6c6f7374 => Event::Lost(k.a),
         _ => Event::Access(AccessKind::Other(k.a), k.b, k.c),
     }
 }

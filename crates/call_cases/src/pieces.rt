@@ -17,7 +17,7 @@ fn reached(s: State, at: u32, events: u32) -> Progress {
 // NMI, a tick, NMI, and a kind that is unknown.
 pub fn scripted(line: &[u8], s: State, at: u32, events: u32) -> State {
     let mut out = [0u8; 60];
-    let r = run::run_some(b"\x04\x05\x04\x0c", reached(s, at, events), &mut out);
+    let r = run::run_some(b"\x04\x05\x04\x0e", reached(s, at, events), &mut out);
     ran(line, s, r, &out);
     r.state
 }

@@ -36,6 +36,19 @@ fn poked_nest(mut s: State, field: u32, i: u32, v: u32) -> State {
     s
 }
 
+// A count, of each of the 55 lines. Past the last nothing is changed.
+fn poked_lost(mut s: State, field: u32, i: u32, v: u32) -> State {
+    let n = i as usize;
+    if 55 <= n {
+        return s;
+    }
+    match field {
+        0x6c6f7374 => s.lost[n] = (v % 65536) as u16, // lost
+        _ => {}
+    }
+    s
+}
+
 fn poked_masks(mut m: Masks, field: u32, v: u32) -> Masks {
     match field {
         0x62617365 => m.basepri = bits::byte_of(v, 0), // base
@@ -106,7 +119,12 @@ fn poked_core(mut c: Core, field: u32, i: u32, v: u32) -> Core {
 
 // A field by its first four letters; of a list the element i.
 pub fn poked(s: State, field: u32, i: u32, v: u32) -> State {
-    let mut t = poked_nest(poked_flags(s, field, i, v), field, i, v);
+    let mut t = poked_lost(
+        poked_nest(poked_flags(s, field, i, v), field, i, v),
+        field,
+        i,
+        v,
+    );
     let core = t.core;
     let next = poked_core(core, field, i, v);
     t.core = next;

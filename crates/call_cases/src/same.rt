@@ -16,6 +16,14 @@ fn same_place(a: State, b: State, i: usize) -> bool {
     a.nest[i] == b.nest[i]
 }
 
+// The count of line i, where there is one.
+fn same_count(a: State, b: State, i: usize) -> bool {
+    if 55 <= i {
+        return true;
+    }
+    a.lost[i] == b.lost[i]
+}
+
 // Region i, where there is one.
 fn same_region(g: Mpu, h: Mpu, i: usize) -> bool {
     if 8 <= i {
@@ -62,6 +70,9 @@ fn same_at(a: State, b: State, i: usize) -> bool
         return false;
     }
     if a.priority[i] != b.priority[i] {
+        return false;
+    }
+    if !same_count(a, b, i) {
         return false;
     }
     same_place(a, b, i)

@@ -22,7 +22,7 @@ use Rattle.rules.specs.Laws.{all, in-all}
 use Rattle.rules.specs.Model.{Model, Answer, refuse}
 use Rattle.rules.specs.Priorities.{execution, isNegative, privileged}
 use Rattle.rules.specs.Sound.{isSound}
-use Rattle.rules.specs.Events.{lineCall, tickCall, escalates, raised, faultException, faultStatus, faultRaised, faultAt, faultCall, svcAt, svcCall, specialAt, specialCall}
+use Rattle.rules.specs.Events.{lineCall, lostCall, tickCall, escalates, raised, faultException, faultStatus, faultRaised, faultAt, faultCall, svcAt, svcCall, specialAt, specialCall}
 use Rattle.rules.specs.Nesting.{chosen, enter, entryAt, entryCall, linkFits, returnCall}
 use Rattle.rules.specs.Map.{registerOf, widthRefusal}
 use Rattle.rules.specs.Registers.{isWidth, accessRefusal, readCall, freeWrite, writeCall}
@@ -90,6 +90,10 @@ module _ (c : Chip) (m : Model) where
   line-fine line level =
       by-cases (Fine (event.Line line level)) (leb (c .lines) line || ltb 1 level) (λ _. inr (record { number = tt; nothing = refl })) (λ _. inl refl)
 
+  lost-fine : (line : ℕ) → Fine (event.Lost line) (lostCall c m line)
+  unfolding lostCall
+  lost-fine line = by-cases (Fine (event.Lost line)) (leb (c .lines) line) (λ _. inr (record { number = tt; nothing = refl })) (λ _. inl refl)
+
   tick-fine : Fine event.Tick (tickCall m)
   unfolding tickCall
   tick-fine = inl refl
@@ -152,6 +156,7 @@ module _ (c : Chip) (m : Model) where
   act-fine event.Entry = entry-fine
   act-fine (event.Return v) = return-fine v
   act-fine (event.Access kind w a) = access-fine (accessNumber kind) w a (event.Access kind w a) refl
+  act-fine (event.Lost line) = lost-fine line
 
   own-below : (e : Event) → T (all (λ (n : ℕ). ltb n 16) (ownRefusals e))
   unfolding all
@@ -166,6 +171,7 @@ module _ (c : Chip) (m : Model) where
   own-below event.Entry = tt
   own-below (event.Return v) = tt
   own-below (event.Access kind w a) = tt
+  own-below (event.Lost line) = tt
 
   -- an event that is let through answers neither 16 nor 17
   below-16 : (e : Event) → Fine e (actOf c m e) → actOf c m e .refusal < 16

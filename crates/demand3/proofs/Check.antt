@@ -6,7 +6,7 @@ use mathlib.Core.List.{List, [], _∷_, List·Memᴰ, List·Memᴰ·head, List·
 use mathlib.Core.Bool.{Bool, true, false, not, _||_}
 use native.Mathlib.Omega.{arith}
 use lib.ListN.{length, getD, List·getD-eq-default}
-use lib.Dec.{T, ltb, eqb, le→leb, ltb→lt, lt→ltb, eqb→eq, T-not, not-T, nltb→le}
+use lib.Dec.{T, ltb, eqb, le→leb, leb→le, ltb→lt, lt→ltb, eqb→eq, T-not, not-T, nltb→le}
 use Rattle.flag_words.specs.Flags.{on}
 use Rattle.grouping.specs.Grouping.{keptByte}
 use Rattle.bools.specs.Tests.{is-true, true-is, fails, same, both, and-l, and-r, join, or-of, of-or, if-of, of-if}
@@ -22,9 +22,9 @@ use Rattle.rules.specs.declared.System.{System}
 use Rattle.rules.specs.Chip.{fits, flagCount, exceptionCount, isIn, hasByte, stands}
 use Rattle.rules.specs.Model.{Model, Answer, stack}
 use Rattle.rules.specs.SystemBlock.{keptVtable, keptSysctrl, keptCfgctrl, keptFaultstat, keptHfaultstat}
-use Rattle.rules.specs.Sound.{flagSound, byteSound, nestedSound, allOn, allDistinct, unusedSound, soundNest, soundFlags, soundSystem, isSized, isSound, Flags, PriorityBytes, Nested, Places, SoundSystem, Sound}
+use Rattle.rules.specs.Sound.{flagSound, byteSound, countSound, nestedSound, allOn, allDistinct, unusedSound, soundNest, soundFlags, soundSystem, isSized, isSound, Flags, PriorityBytes, Nested, Places, Counts, SoundSystem, Sound}
 use Rattle.rules.specs.Step.{actOf, guarded, admitted, stepOf}
-use Rattle.rules.specs.Laws.{isIn-mem, mem-isIn}
+use Rattle.rules.specs.Laws.{isIn-mem, mem-isIn, counts-held}
 use Rattle.demand3.proofs.Parts.{kept-byte-zero, down-length, nested-fits}
 
 -- ---- lists of numbers
@@ -106,6 +106,11 @@ module _ (c : Chip) where
             (λ i k l. eqb→eq (getD nest i 0) 0 (of-or (ltb i depth) (eqb (getD nest i 0) 0) (of-every (unusedSound nest depth) (exceptionCount c) i k t) (λ u. let v = ltb→lt i depth u in omega arith)));
       }
 
+  of-counts : (l : List ℕ) → length l ≡ c .lines → T (every (countSound l) (c .lines)) → Counts c l
+  unfolding countSound
+  of-counts l size t =
+      record { size = size; most = at-each (λ n x. x ≤ 65535) l (c .lines) size (λ n. omega arith) (λ n k. leb→le (getD l n 0) 65535 (of-every (countSound l) (c .lines) n k t)) }
+
   stacked-of : (active : List Bool) (xs : List ℕ) → Nested active xs → T (every (nestedSound active xs) (flagCount c))
   unfolding nestedSound
   stacked-of active xs h = every-of (nestedSound active xs) (flagCount c) (λ n _. if-of (on active n) (isIn n xs) (λ t. mem-isIn n xs (h .stacked n t)))
@@ -151,7 +156,8 @@ module _ (c : Chip) (m : Model) where
       let e = same (length (m .level)) (flagCount c) (h .level .size) in
       let f = same (length (m .priority)) (flagCount c) (h .priority .size) in
       let g = same (length (m .nest)) (exceptionCount c) (h .places .size) in
-      search join
+      let i = same (length (m .lost)) (c .lines) (h .lost .size) in
+      search join depth 8
 
   all-flags-of : Sound c m → T (soundFlags c (m .pending) (m .active) (m .enabled) (m .level))
   unfolding soundFlags
@@ -179,34 +185,36 @@ sound-of {c} {m} h =
     let b = all-flags-of c m h in
     let d = bytes-of c (m .priority) (h .priority) in
     let e = nest-of c m h in
+    let l = is-true (counts-held (m .lost) (c .lines) (h .lost .most)) in
     let f = lt→ltb (m .core .group) 8 (h .core .group) in
     let g = same (keptByte (c .bits) (m .core .masks .basepri)) (m .core .masks .basepri) (h .core .basepri) in
     let i = sound-timer-of (h .core .timer) in
     let j = sound-mpu-of (h .core .guard) in
     let k = system-of c (m .core .system) (h .core .system) in
-    search join depth 10
+    search join depth 12
 
 pub of-sound : (c : Chip) (m : Model) → T (isSound c m) → Sound c m
 unfolding isSound isSized soundFlags soundNest
 of-sound c m t =
-    let sized : T (isSized c m) = search (and-l, and-r) depth 10 in
-    let flagged : T (soundFlags c (m .pending) (m .active) (m .enabled) (m .level)) = search (and-l, and-r) depth 10 in
-    let nested : T (soundNest c (m .active) (m .nest) (m .core .depth)) = search (and-l, and-r) depth 10 in
-    let size = eqb→eq (length (m .active)) (flagCount c) (search (and-l, and-r) depth 10) in
+    let sized : T (isSized c m) = search (and-l, and-r) depth 12 in
+    let flagged : T (soundFlags c (m .pending) (m .active) (m .enabled) (m .level)) = search (and-l, and-r) depth 12 in
+    let nested : T (soundNest c (m .active) (m .nest) (m .core .depth)) = search (and-l, and-r) depth 12 in
+    let size = eqb→eq (length (m .active)) (flagCount c) (search (and-l, and-r) depth 12) in
     record {
-      pending = of-flags c Exception (m .pending) (eqb→eq (length (m .pending)) (flagCount c) (search (and-l, and-r) depth 10)) (search (and-l, and-r) depth 10);
-      active = of-flags c Exception (m .active) size (search (and-l, and-r) depth 10);
-      enabled = of-flags c Enable (m .enabled) (eqb→eq (length (m .enabled)) (flagCount c) (search (and-l, and-r) depth 10)) (search (and-l, and-r) depth 10);
-      level = of-flags c Line (m .level) (eqb→eq (length (m .level)) (flagCount c) (search (and-l, and-r) depth 10)) (search (and-l, and-r) depth 10);
-      priority = of-bytes c (m .priority) (eqb→eq (length (m .priority)) (flagCount c) (search (and-l, and-r) depth 10)) (search (and-l, and-r) depth 10);
-      places = of-places c (m .nest) (m .core .depth) (eqb→eq (length (m .nest)) (exceptionCount c) (search (and-l, and-r) depth 10)) (search (and-l, and-r) depth 10);
-      nested = record { distinct = of-distinct (stack m) (search (and-l, and-r) depth 10); shown = of-allOn (m .active) (stack m) (search (and-l, and-r) depth 10); stacked = of-stacked c (m .active) (stack m) size (search (and-l, and-r) depth 10) };
+      pending = of-flags c Exception (m .pending) (eqb→eq (length (m .pending)) (flagCount c) (search (and-l, and-r) depth 12)) (search (and-l, and-r) depth 12);
+      active = of-flags c Exception (m .active) size (search (and-l, and-r) depth 12);
+      enabled = of-flags c Enable (m .enabled) (eqb→eq (length (m .enabled)) (flagCount c) (search (and-l, and-r) depth 12)) (search (and-l, and-r) depth 12);
+      level = of-flags c Line (m .level) (eqb→eq (length (m .level)) (flagCount c) (search (and-l, and-r) depth 12)) (search (and-l, and-r) depth 12);
+      priority = of-bytes c (m .priority) (eqb→eq (length (m .priority)) (flagCount c) (search (and-l, and-r) depth 12)) (search (and-l, and-r) depth 12);
+      places = of-places c (m .nest) (m .core .depth) (eqb→eq (length (m .nest)) (exceptionCount c) (search (and-l, and-r) depth 12)) (search (and-l, and-r) depth 12);
+      nested = record { distinct = of-distinct (stack m) (search (and-l, and-r) depth 12); shown = of-allOn (m .active) (stack m) (search (and-l, and-r) depth 12); stacked = of-stacked c (m .active) (stack m) size (search (and-l, and-r) depth 12) };
+      lost = of-counts c (m .lost) (eqb→eq (length (m .lost)) (c .lines) (search (and-l, and-r) depth 12)) (search (and-l, and-r) depth 12);
       core = record {
-        group = ltb→lt (m .core .group) 8 (search (and-l, and-r) depth 10);
-        basepri = eqb→eq (keptByte (c .bits) (m .core .masks .basepri)) (m .core .masks .basepri) (search (and-l, and-r) depth 10);
-        timer = of-sound-timer (m .core .timer) (search (and-l, and-r) depth 10);
-        guard = of-sound-mpu (m .core .guard) (search (and-l, and-r) depth 10);
-        system = of-system c (m .core .system) (search (and-l, and-r) depth 10);
+        group = ltb→lt (m .core .group) 8 (search (and-l, and-r) depth 12);
+        basepri = eqb→eq (keptByte (c .bits) (m .core .masks .basepri)) (m .core .masks .basepri) (search (and-l, and-r) depth 12);
+        timer = of-sound-timer (m .core .timer) (search (and-l, and-r) depth 12);
+        guard = of-sound-mpu (m .core .guard) (search (and-l, and-r) depth 12);
+        system = of-system c (m .core .system) (search (and-l, and-r) depth 12);
       };
     }
 

@@ -20,12 +20,12 @@ use Rattle.rules.specs.Chip.{isIn, isLine, exists}
 use Rattle.rules.specs.Model.{Model, Answer}
 use Rattle.rules.specs.Priorities.{execution, isNegative, privileged}
 use Rattle.rules.specs.SystemBlock.{keptFaultstat}
-use Rattle.rules.specs.Sound.{SoundSystem, Sound}
-use Rattle.rules.specs.Events.{levelled, lineCall, nmiCall, tickCall, escalates, forced, raised, faultException, faultStatus, faultRaised, faultAt, faultCall, svcAt, svcCall, faultmaskWritten, basepriRaised, controlWritten, specialWritten, specialAt, specialCall}
+use Rattle.rules.specs.Sound.{Counts, SoundSystem, Sound}
+use Rattle.rules.specs.Events.{levelled, losesRise, counted, lineCall, lostCall, nmiCall, tickCall, escalates, forced, raised, faultException, faultStatus, faultRaised, faultAt, faultCall, svcAt, svcCall, faultmaskWritten, basepriRaised, controlWritten, specialWritten, specialAt, specialCall}
 use Rattle.demand3.proofs.Words.{inside, faultstatFields, faultstat-with, hfaultstat-with}
 use Rattle.rules.specs.Laws.{all, in-all, is-line, line-stands}
-use Rattle.demand3.proofs.Parts.{flags-set, kept-byte-twice}
-use Rattle.demand3.proofs.Quiet.{Quiet, stay, put-level, put-masks, put-timer, put-system, pend-quiet}
+use Rattle.demand3.proofs.Parts.{flags-set, counts-more, kept-byte-twice}
+use Rattle.demand3.proofs.Quiet.{Quiet, stay, put-level, put-lost, put-masks, put-timer, put-system, pend-quiet}
 
 -- ---- the system block after a fault
 
@@ -70,6 +70,10 @@ module _ {c : Chip} {m : Model} (h : Sound c m) where
   abbrev Leaves : Answer → Type 0
   Leaves a = Quiet c m (a .next)
 
+  counted-sound : (line : ℕ) (high : Bool) → Counts c (counted line high m)
+  unfolding counted
+  counted-sound line high = by-cases (Counts c) (losesRise (16 + line) high m) (λ _. counts-more c (m .lost) line (h .lost)) (λ _. h .lost)
+
   levelled-quiet : (n : ℕ) (high : Bool) → T (isLine c n) → Quiet c m (levelled n high m)
   unfolding levelled
   levelled-quiet n high t =
@@ -81,7 +85,11 @@ module _ {c : Chip} {m : Model} (h : Sound c m) where
   unfolding lineCall
   line-quiet line level =
       by-cases Leaves (leb (c .lines) line || ltb 1 level) (λ _. stay h)
-      (λ t. let l = nleb→lt (c .lines) line (not-or-left (leb (c .lines) line) (ltb 1 level) t) in levelled-quiet (16 + line) (eqb level 1) (is-line c (16 + line) (omega arith) (omega arith)))
+      (λ t. let l = nleb→lt (c .lines) line (not-or-left (leb (c .lines) line) (ltb 1 level) t) in put-lost (levelled-quiet (16 + line) (eqb level 1) (is-line c (16 + line) (omega arith) (omega arith))) (counted-sound line (eqb level 1)))
+
+  pub lost-quiet : (line : ℕ) → Quiet c m (lostCall c m line .next)
+  unfolding lostCall
+  lost-quiet line = by-cases Leaves (leb (c .lines) line) (λ _. stay h) (λ _. stay h)
 
   pub nmi-quiet : Quiet c m (nmiCall m .next)
   nmi-quiet = pend-quiet (stay h) 2 tt

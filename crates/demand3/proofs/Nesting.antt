@@ -87,6 +87,7 @@ module _ {c : Chip} {m : Model} (h : Sound c m) where
           priority = h .priority;
           places = places-push c (m .nest) (m .core .depth) (h .places) n;
           nested = rw stack-entered pushed;
+          lost = h .lost;
           core = kept-core (h .core) (h .core .basepri);
         }
 
@@ -134,6 +135,7 @@ module _ {c : Chip} {m : Model} (h : Sound c m) where
               priority = s .priority;
               places = places-pop c (m .nest) (m .core .depth) (h .places) l (depth-fits h);
               nested = subst (Nested (set (m .active) (top (stack m)) false)) (sym (down-pop (m .nest) (m .core .depth))) rest;
+              lost = s .lost;
               core = kept-core (s .core) b;
             };
         stacked = down-pop (m .nest) (m .core .depth);

@@ -1,5 +1,5 @@
 -- The parts of a sound model, each kept by what an event does to the fields that it names.
-use Prim.Native.Nat.{ℕ, zero, suc, pred, _-_, _^_, _≤_, _<_}
+use Prim.Native.Nat.{ℕ, zero, suc, pred, _-_, _^_, _≤_, _<_, min}
 use mathlib.Core.Path.{_≡_, refl, sym, ap, ap₂, subst, _∙_}
 use mathlib.Core.Logic.{_≢_, _⊎_, inl, inr}
 use mathlib.Core.List.{List, [], _∷_, List·Memᴰ, List·Memᴰ·head, List·Memᴰ·tail, List·Memᴰ·not-nil, List·Memᴰ·cases-cons, Memᴰ·cast}
@@ -22,7 +22,8 @@ use Rattle.rules.specs.declared.Place.{Place}
 use Rattle.rules.specs.declared.Place.the-variants.{Exception}
 use Rattle.rules.specs.Chip.{flagCount, exceptionCount, hasByte, stands}
 use Rattle.rules.specs.Model.{down, top}
-use Rattle.rules.specs.Sound.{Flags, PriorityBytes, Nested, Places}
+use Rattle.rules.specs.Sound.{Flags, PriorityBytes, Nested, Places, Counts}
+use Rattle.rules.specs.Events.{oneMore}
 use Rattle.demand3.specs.Demand3.{dropTop}
 use Rattle.rules.specs.Laws.{is-line, line-stands}
 use Rattle.demand3.proofs.Exceptions.{few-exceptions}
@@ -108,6 +109,18 @@ module _ (c : Chip) where
 
   pub bytes-kept : (l : List ℕ) → PriorityBytes c l → (n : ℕ) → Kept (c .bits) (getD l n 0)
   bytes-kept l h n = subst (Kept (c .bits)) (h .each n) (kept-byte (c .bits) (getD l n 0))
+
+-- ---- counts
+
+pub counts-more : (c : Chip) (l : List ℕ) (line : ℕ) → Counts c l → Counts c (oneMore line l)
+unfolding oneMore
+counts-more c l line h =
+    let n = min (suc (getD l line 0)) 65535 in
+    let held : n ≤ 65535 = omega arith in
+    record { size = length-set l line n ∙ h .size; most = λ i. getD-set-both (λ x. x ≤ 65535) l line n i 0 held (h .most i) }
+
+pub counts-fresh : (c : Chip) → Counts c (replicate (c .lines) 0)
+counts-fresh c = record { size = length-replicate (c .lines) 0; most = λ i. rw (getD-fresh {A = ℕ} (c .lines) i 0) (omega arith) }
 
 -- ---- the nest: its places, and the list of those in use
 

@@ -15,8 +15,8 @@ use Rattle.rules.specs.declared.Core.{Core}
 use Rattle.rules.specs.declared.Masks.{Masks}
 use Rattle.rules.specs.declared.System.{System}
 use Rattle.rules.specs.Chip.{exists}
-use Rattle.rules.specs.Model.{Model, down, stack, putMasks, putDepth, withCore, withPending, withEnabled, withLevel, withPriority, withGroup, withMasks, withTimer, withGuard, withSystem}
-use Rattle.rules.specs.Sound.{Flags, PriorityBytes, Nested, Places, SoundSystem, SoundCore, Sound}
+use Rattle.rules.specs.Model.{Model, down, stack, putMasks, putDepth, withCore, withPending, withEnabled, withLevel, withPriority, withLost, withGroup, withMasks, withTimer, withGuard, withSystem}
+use Rattle.rules.specs.Sound.{Flags, PriorityBytes, Nested, Places, Counts, SoundSystem, SoundCore, Sound}
 use Rattle.rules.specs.Events.{pend}
 use Rattle.demand3.proofs.Parts.{flags-set}
 
@@ -36,27 +36,32 @@ module _ {c : Chip} {m t : Model} (q : Quiet c m t) where
   pub put-pending : {x : List Bool} → Flags c Exception x → Quiet c m (withPending x t)
   put-pending f =
       let h = q .sound in
-      record { sound = record { pending = f; active = h .active; enabled = h .enabled; level = h .level; priority = h .priority; places = h .places; nested = h .nested; core = h .core }; kept = q .kept }
+      record { sound = record { pending = f; active = h .active; enabled = h .enabled; level = h .level; priority = h .priority; places = h .places; nested = h .nested; lost = h .lost; core = h .core }; kept = q .kept }
 
   pub put-enabled : {x : List Bool} → Flags c Enable x → Quiet c m (withEnabled x t)
   put-enabled f =
       let h = q .sound in
-      record { sound = record { pending = h .pending; active = h .active; enabled = f; level = h .level; priority = h .priority; places = h .places; nested = h .nested; core = h .core }; kept = q .kept }
+      record { sound = record { pending = h .pending; active = h .active; enabled = f; level = h .level; priority = h .priority; places = h .places; nested = h .nested; lost = h .lost; core = h .core }; kept = q .kept }
 
   pub put-level : {x : List Bool} → Flags c Line x → Quiet c m (withLevel x t)
   put-level f =
       let h = q .sound in
-      record { sound = record { pending = h .pending; active = h .active; enabled = h .enabled; level = f; priority = h .priority; places = h .places; nested = h .nested; core = h .core }; kept = q .kept }
+      record { sound = record { pending = h .pending; active = h .active; enabled = h .enabled; level = f; priority = h .priority; places = h .places; nested = h .nested; lost = h .lost; core = h .core }; kept = q .kept }
 
   pub put-priority : {x : List ℕ} → PriorityBytes c x → Quiet c m (withPriority x t)
   put-priority f =
       let h = q .sound in
-      record { sound = record { pending = h .pending; active = h .active; enabled = h .enabled; level = h .level; priority = f; places = h .places; nested = h .nested; core = h .core }; kept = q .kept }
+      record { sound = record { pending = h .pending; active = h .active; enabled = h .enabled; level = h .level; priority = f; places = h .places; nested = h .nested; lost = h .lost; core = h .core }; kept = q .kept }
+
+  pub put-lost : {x : List ℕ} → Counts c x → Quiet c m (withLost x t)
+  put-lost f =
+      let h = q .sound in
+      record { sound = record { pending = h .pending; active = h .active; enabled = h .enabled; level = h .level; priority = h .priority; places = h .places; nested = h .nested; lost = f; core = h .core }; kept = q .kept }
 
   pub put-core : {x : Core} → SoundCore c x → x .depth ≡ t .core .depth → Quiet c m (withCore x t)
   put-core {x} f e =
       let h = q .sound in
-      record { sound = record { pending = h .pending; active = h .active; enabled = h .enabled; level = h .level; priority = h .priority; places = subst (Places c (t .nest)) (sym e) (h .places); nested = subst (λ d. Nested (t .active) (down (t .nest) d)) (sym e) (h .nested); core = f }; kept = ap (down (t .nest)) e ∙ q .kept }
+      record { sound = record { pending = h .pending; active = h .active; enabled = h .enabled; level = h .level; priority = h .priority; places = subst (Places c (t .nest)) (sym e) (h .places); nested = subst (λ d. Nested (t .active) (down (t .nest) d)) (sym e) (h .nested); lost = h .lost; core = f }; kept = ap (down (t .nest)) e ∙ q .kept }
 
   pub put-group : {x : ℕ} → x < 8 → Quiet c m (withGroup x t)
   put-group f = let h = q .sound .core in put-core (record { group = f; basepri = h .basepri; timer = h .timer; guard = h .guard; system = h .system }) refl

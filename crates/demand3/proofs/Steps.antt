@@ -26,10 +26,10 @@ use Rattle.rules.specs.Nesting.{chosen, enter, entryAt, entryCall, linkFits, re
 use Rattle.rules.specs.Access.{fitsAccess, accessAt, accessCall}
 use Rattle.rules.specs.Step.{actOf, admitted, stepOf}
 use Rattle.demand3.specs.Demand3.{moved, SamePriorities}
-use Rattle.demand3.proofs.Parts.{getD-fresh, flags-fresh, bytes-fresh, kept-byte-zero, places-fresh, rising-drop}
+use Rattle.demand3.proofs.Parts.{getD-fresh, flags-fresh, bytes-fresh, kept-byte-zero, places-fresh, counts-fresh, rising-drop}
 use Rattle.demand3.proofs.Check.{guard-passes}
 use Rattle.demand3.proofs.Quiet.{Quiet, stay}
-use Rattle.demand3.proofs.Events.{line-quiet, nmi-quiet, tick-quiet, fault-quiet, svc-quiet, special-quiet}
+use Rattle.demand3.proofs.Events.{line-quiet, lost-quiet, nmi-quiet, tick-quiet, fault-quiet, svc-quiet, special-quiet}
 use Rattle.demand3.proofs.Registers.{read-call-quiet, write-call-quiet}
 use Rattle.rules.specs.Laws.{link-deep}
 use Rattle.demand3.proofs.Nesting.{chosen-able, stack-entered, sound-entered, rising-entered, Popped, returned-popped}
@@ -91,6 +91,7 @@ module _ {c : Chip} {m : Model} (h : Sound c m) where
   act-ok event.Entry = entry-ok
   act-ok (event.Return v) = return-ok v
   act-ok (event.Access kind w a) = quiet (event.Access kind w a) refl (access-quiet (accessNumber kind) w a)
+  act-ok (event.Lost line) = quiet (event.Lost line) refl (lost-quiet h line)
 
   pub act-sound : (e : Event) → Sound c (actOf c m e .next)
   act-sound e = act-ok e .sound
@@ -117,6 +118,7 @@ sound-fresh c =
       priority = bytes-fresh c;
       places = places-fresh c;
       nested = record { distinct = tt; shown = λ n m. absurd (List·Memᴰ·not-nil m); stacked = λ n t. absurd (rw (getD-fresh (flagCount c) n false) at t) };
+      lost = counts-fresh c;
       core = record {
         group = omega arith;
         basepri = kept-byte-zero (c .bits);

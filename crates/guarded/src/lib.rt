@@ -16,16 +16,27 @@ pub fn step(
     level: &mut [bool],
     priority: &mut [u8],
     nest: &mut [u8],
+    lost: &mut [u16],
     core: Core,
     event: Event,
 ) -> Outcome
     requires { ⌜ FewLines chip ⌝ }
-    ensures { λ r. ⌜ answer r (modelOf (now (pending .exit)) (now (active .exit)) (now (enabled .exit)) (now (level .exit)) (now (priority .exit)) (now (nest .exit)) core) ≡ stepOf chip (modelOf (now (pending .entry)) (now (active .entry)) (now (enabled .entry)) (now (level .entry)) (now (priority .entry)) (now (nest .entry)) core) event ⌝ }
+    ensures { λ r. ⌜ answer r (modelOf (now (pending .exit)) (now (active .exit)) (now (enabled .exit)) (now (level .exit)) (now (priority .exit)) (now (nest .exit)) (now (lost .exit)) core) ≡ stepOf chip (modelOf (now (pending .entry)) (now (active .entry)) (now (enabled .entry)) (now (level .entry)) (now (priority .entry)) (now (nest .entry)) (now (lost .entry)) core) event ⌝ }
 {
     if !chip.fits() {
         return parts::refused(core, 17);
     }
-    if !sound_state::is_sound(chip, pending, active, enabled, level, priority, nest, core) {
+    if !sound_state::is_sound(
+        chip,
+        pending,
+        active,
+        enabled,
+        level,
+        priority,
+        nest,
+        lost,
+        core,
+    ) {
         return parts::refused(core, 16);
     }
     let limit = sound_state::execution(priority, nest, core);
@@ -37,6 +48,7 @@ pub fn step(
         level,
         priority,
         nest,
+        lost,
         core,
         limit,
         event,

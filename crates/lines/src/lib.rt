@@ -1,6 +1,6 @@
 // Lines, NMI and SysTick on lent lists, for every chip.
 ghost use mathlib.Core.Path.{_≡_};
-ghost use Rattle.rules.specs.Model.{Model, withPending, withLevel, withCore};
+ghost use Rattle.rules.specs.Model.{Model, withPending, withLevel, withLost, withCore};
 ghost use Rattle.rules.specs.Lent.{answer};
 ghost use Rattle.rules.specs.Events.{levelled, lineCall, nmiCall};
 use nvic::flags::flag_at;
@@ -33,11 +33,12 @@ pub fn line(
     chip: Chip,
     pending: &mut [bool],
     level: &mut [bool],
+    lost: &mut [u16],
     core: Core,
     line: u32,
     to: u32,
 ) -> Outcome
-    ensures { λ r. ⌜ ((m : Model) → answer r (withLevel (now (level .exit)) (withPending (now (pending .exit)) m)) ≡ lineCall chip (withCore core (withLevel (now (level .entry)) (withPending (now (pending .entry)) m))) line to) ⌝ }
+    ensures { λ r. ⌜ ((m : Model) → answer r (withLost (now (lost .exit)) (withLevel (now (level .exit)) (withPending (now (pending .exit)) m))) ≡ lineCall chip (withCore core (withLost (now (lost .entry)) (withLevel (now (level .entry)) (withPending (now (pending .entry)) m)))) line to) ⌝ }
 {
     if chip.lines <= line {
         return refused(core, 6);
@@ -45,7 +46,9 @@ pub fn line(
     if 1 < to {
         return refused(core, 6);
     }
-    set_level(pending, level, 16 + line as usize, to == 1);
+    let high = to == 1;
+    pulses::count(pending, level, lost, line, high);
+    set_level(pending, level, 16 + line as usize, high);
     accepted(core, 0)
 }
 

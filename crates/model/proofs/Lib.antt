@@ -2,3 +2,4 @@ pub mod Demand1
 pub mod Demand3
 pub mod Bounds
 pub mod ComesAndGoes
+pub mod LostPulses

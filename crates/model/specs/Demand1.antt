@@ -22,7 +22,7 @@ pub record Refused (e : Event) (s : State) (r : Reply) : Type 0 where
   pub state : r .state ≡ s
 
 -- The equation is the contract of `step`, and of the call of the event's own kind: read, write, line, nmi, tick, fault, svc, special,
--- entry, return_, access.
+-- entry, return_, access, lost.
 pub record CodeDemand1 : Type 0 where
   pub events : (s : State) (e : Event) (r : Reply) → r ≡ reply (stepOf chip55 (model s) e) → (r .refusal ≡ 0) ⊎ Refused e s r
   -- document 02, E7: "17, a chip setup with w outside 3 to 8": this chip keeps three, so never

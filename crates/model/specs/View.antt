@@ -6,11 +6,11 @@ use Rattle.model.specs.declared.Reply.{Reply}
 
 abbrev pub model : State → Model
 model s =
-    record { pending = s .pending; active = s .active; enabled = s .enabled; level = s .level; priority = s .priority; nest = s .nest; core = s .core }
+    record { pending = s .pending; active = s .active; enabled = s .enabled; level = s .level; priority = s .priority; nest = s .nest; lost = s .lost; core = s .core }
 
 abbrev pub state : Model → State
 state m =
-    record { pending = m .pending; active = m .active; enabled = m .enabled; level = m .level; priority = m .priority; nest = m .nest; core = m .core }
+    record { pending = m .pending; active = m .active; enabled = m .enabled; level = m .level; priority = m .priority; nest = m .nest; lost = m .lost; core = m .core }
 
 abbrev pub reply : Answer → Reply
 reply a =

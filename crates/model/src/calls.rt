@@ -2,7 +2,7 @@
 ghost use mathlib.Core.Path.{_≡_};
 ghost use Rattle.rules.specs.Chip.{chip55};
 ghost use Rattle.rules.specs.Step.{stepOf};
-ghost use Rattle.script.specs.declared.Event.the-variants.{Read, Write, Line, Nmi, Tick, Fault, Svc, Special, Entry, Return, Access};
+ghost use Rattle.script.specs.declared.Event.the-variants.{Read, Write, Line, Nmi, Tick, Fault, Svc, Special, Entry, Return, Access, Lost};
 ghost use Rattle.script.specs.declared.AccessKind.the-variants.{Other};
 ghost use Rattle.model.specs.View.{model, reply};
 use super::Reply;
@@ -21,6 +21,7 @@ impl State {
         let mut level = self.level;
         let mut priority = self.priority;
         let mut nest = self.nest;
+        let mut lost = self.lost;
         let core = self.core;
         let outcome = guarded::step(
             super::CHIP,
@@ -30,6 +31,7 @@ impl State {
             &mut level,
             &mut priority,
             &mut nest,
+            &mut lost,
             core,
             event,
         );
@@ -41,6 +43,7 @@ impl State {
             level,
             priority,
             nest,
+            lost,
             core: left,
         };
         Reply {
@@ -117,5 +120,12 @@ impl State {
         ensures { λ r. ⌜ r ≡ reply (stepOf chip55 (model self) (Access (Other kind) width address)) ⌝ }
     {
         self.step(Event::Access(AccessKind::Other(kind), width, address))
+    }
+
+    // How many rises of a line found it pending, 65,535 where there were more.
+    pub fn lost(self, line: u32) -> Reply
+        ensures { λ r. ⌜ r ≡ reply (stepOf chip55 (model self) (Lost line)) ⌝ }
+    {
+        self.step(Event::Lost(line))
     }
 }

@@ -10,8 +10,8 @@ use rules::Core;
 
 pub mod calls;
 
-// Flags and priority bytes stand at exception numbers; the nest holds the active exceptions, the newest last. `core` has its depth and
-// every part that holds no array of the chip's size.
+// Flags and priority bytes stand at exception numbers; the nest holds the active exceptions, the newest last; `lost` counts the rises that
+// each line lost. `core` has the nest's depth and every part that holds no array of the chip's size.
 pub struct State {
     pub pending: [bool; 71],
     pub active: [bool; 71],
@@ -19,6 +19,7 @@ pub struct State {
     pub level: [bool; 71],
     pub priority: [u8; 71],
     pub nest: [u8; 63],
+    pub lost: [u16; 55],
     pub core: Core,
 }
 
@@ -45,6 +46,7 @@ impl State {
             level: [false; 71],
             priority: [0; 71],
             nest: [0; 63],
+            lost: [0; 55],
             core: parts::fresh_core(),
         }
     }
@@ -94,6 +96,7 @@ impl State {
         let level = self.level;
         let priority = self.priority;
         let nest = self.nest;
+        let lost = self.lost;
         let core = self.core;
         sound_state::is_sound(
             CHIP,
@@ -103,6 +106,7 @@ impl State {
             &level,
             &priority,
             &nest,
+            &lost,
             core,
         )
     }

@@ -1,10 +1,10 @@
 -- Every event but reads and writes, on two models that are alike: what each test reads agrees, and each store is within the shorter lists.
-use Prim.Native.Nat.{ℕ, suc, pred, _+_, _*_, _%_, _≤_, _<_}
-use mathlib.Core.Path.{_≡_, refl, sym, ap, subst, _∙_}
+use Prim.Native.Nat.{ℕ, suc, pred, _+_, _*_, _%_, _≤_, _<_, min}
+use mathlib.Core.Path.{_≡_, refl, sym, ap, ap₂, subst, _∙_}
 use mathlib.Core.List.{List, [], _∷_}
 use mathlib.Core.Bool.{Bool, true, false, not, _&&_, _||_}
 use native.Mathlib.Omega.{arith}
-use lib.ListN.{set}
+use lib.ListN.{getD, set}
 use lib.Dec.{ltb, leb, eqb}
 use lib.IntN.{ℤ}
 use borrow.Author.Tests.{lt-leb}
@@ -19,10 +19,10 @@ use Rattle.rules.specs.declared.Chip.{Chip}
 use Rattle.rules.specs.declared.Core.{Core}
 use Rattle.rules.specs.declared.System.{System}
 use Rattle.rules.specs.Chip.{flagCount, exceptionCount, isIn}
-use Rattle.rules.specs.Model.{Model, Answer, refuse, done, down, stack, top, withPending, withActive, withEnabled, withLevel, withPriority, withNest, withCore, withDepth, withMasks, putDepth, putMasks, putTimer, putSystem}
+use Rattle.rules.specs.Model.{Model, Answer, refuse, done, down, stack, top, withPending, withActive, withEnabled, withLevel, withPriority, withNest, withLost, withCore, withDepth, withMasks, putDepth, putMasks, putTimer, putSystem}
 use Rattle.rules.specs.Priorities.{execution, isNegative, privileged}
 use Rattle.rules.specs.Sound.{Sound}
-use Rattle.rules.specs.Events.{pend, levelled, lineCall, nmiCall, tickedModel, tickCall, escalates, forced, raised, faultException, faultStatus, faultRaised, faultAt, faultCall, svcAt, svcCall, specialWritten, specialAt, specialCall}
+use Rattle.rules.specs.Events.{pend, levelled, losesRise, oneMore, counted, lineCall, lostCall, nmiCall, tickedModel, tickCall, escalates, forced, raised, faultException, faultStatus, faultRaised, faultAt, faultCall, svcAt, svcCall, specialWritten, specialAt, specialCall}
 use Rattle.rules.specs.Nesting.{chosen, linkOf, withSpsel, entered, enter, entryAt, entryCall, linkFits, returnedMasks, repended, returned, returnCall}
 use Rattle.rules.specs.Access.{fitsAccess, accessAt, accessCall}
 use Rattle.rules.specs.Laws.{link-deep}
@@ -35,26 +35,29 @@ use Rattle.old_scripts.proofs.Lists.{both-ways, same-clear, Held, held-
 
 module _ {m t : Model} (a : Alike m t) where
   pub put-pending : {x y : List Bool} → Same false x y → Alike (withPending x m) (withPending y t)
-  put-pending s = record { pending = s; active = a .active; enabled = a .enabled; level = a .level; priority = a .priority; nest = a .nest; core = a .core }
+  put-pending s = record { pending = s; active = a .active; enabled = a .enabled; level = a .level; priority = a .priority; nest = a .nest; lost = a .lost; core = a .core }
 
   put-active : {x y : List Bool} → Same false x y → Alike (withActive x m) (withActive y t)
-  put-active s = record { pending = a .pending; active = s; enabled = a .enabled; level = a .level; priority = a .priority; nest = a .nest; core = a .core }
+  put-active s = record { pending = a .pending; active = s; enabled = a .enabled; level = a .level; priority = a .priority; nest = a .nest; lost = a .lost; core = a .core }
 
   pub put-enabled : {x y : List Bool} → Same false x y → Alike (withEnabled x m) (withEnabled y t)
-  put-enabled s = record { pending = a .pending; active = a .active; enabled = s; level = a .level; priority = a .priority; nest = a .nest; core = a .core }
+  put-enabled s = record { pending = a .pending; active = a .active; enabled = s; level = a .level; priority = a .priority; nest = a .nest; lost = a .lost; core = a .core }
 
   put-level : {x y : List Bool} → Same false x y → Alike (withLevel x m) (withLevel y t)
-  put-level s = record { pending = a .pending; active = a .active; enabled = a .enabled; level = s; priority = a .priority; nest = a .nest; core = a .core }
+  put-level s = record { pending = a .pending; active = a .active; enabled = a .enabled; level = s; priority = a .priority; nest = a .nest; lost = a .lost; core = a .core }
 
   pub put-priority : {x y : List ℕ} → Same 0 x y → Alike (withPriority x m) (withPriority y t)
-  put-priority s = record { pending = a .pending; active = a .active; enabled = a .enabled; level = a .level; priority = s; nest = a .nest; core = a .core }
+  put-priority s = record { pending = a .pending; active = a .active; enabled = a .enabled; level = a .level; priority = s; nest = a .nest; lost = a .lost; core = a .core }
 
   put-nest : {x y : List ℕ} → Same 0 x y → Alike (withNest x m) (withNest y t)
-  put-nest s = record { pending = a .pending; active = a .active; enabled = a .enabled; level = a .level; priority = a .priority; nest = s; core = a .core }
+  put-nest s = record { pending = a .pending; active = a .active; enabled = a .enabled; level = a .level; priority = a .priority; nest = s; lost = a .lost; core = a .core }
+
+  put-lost : {x y : List ℕ} → Same 0 x y → Alike (withLost x m) (withLost y t)
+  put-lost s = record { pending = a .pending; active = a .active; enabled = a .enabled; level = a .level; priority = a .priority; nest = a .nest; lost = s; core = a .core }
 
   -- the core changed by the same function
   pub put-core : (f : Core → Core) → Alike (withCore (f (m .core)) m) (withCore (f (t .core)) t)
-  put-core f = record { pending = a .pending; active = a .active; enabled = a .enabled; level = a .level; priority = a .priority; nest = a .nest; core = ap f (a .core) }
+  put-core f = record { pending = a .pending; active = a .active; enabled = a .enabled; level = a .level; priority = a .priority; nest = a .nest; lost = a .lost; core = ap f (a .core) }
 
 -- ---- answers that meet: the same numbers, and what is left is alike
 
@@ -128,6 +131,21 @@ module _ {c d : Chip} (g : Grown c d) {m t : Model} (h : Sound c m) (k : Sound d
   pended : (n : ℕ) → n < flagCount c → Alike (pend n m) (pend n t)
   pended n l = put-pending a (held-set (more g) n true l pendings .same)
 
+  loses-same : (n : ℕ) (high : Bool) → losesRise n high m ≡ losesRise n high t
+  unfolding losesRise
+  loses-same n high = ap₂ (λ (p q : Bool). (high && not p) && q) (a .level .each n) (a .pending .each n)
+
+  more-same : (line : ℕ) → line < c .lines → Same 0 (oneMore line (m .lost)) (oneMore line (t .lost))
+  unfolding oneMore
+  more-same line l =
+      subst (λ (n : ℕ). Same 0 (oneMore line (m .lost)) (set (t .lost) line (min (suc n) 65535))) (a .lost .each line)
+      (held-set (g .lines) line (min (suc (getD (m .lost) line 0)) 65535) l (record { short = h .lost .size; long = k .lost .size; same = a .lost }) .same)
+
+  counted-same : (line : ℕ) (high : Bool) → line < c .lines → Same 0 (counted line high m) (counted line high t)
+  unfolding counted
+  counted-same line high l =
+      both-ways (Same 0) (losesRise (16 + line) high m) (losesRise (16 + line) high t) (loses-same (16 + line) high) (λ _. more-same line l) (λ _. a .lost)
+
   levelled-alike : (n : ℕ) (high : Bool) → n < flagCount c → Alike (levelled n high m) (levelled n high t)
   unfolding levelled
   levelled-alike n high l =
@@ -141,7 +159,15 @@ module _ {c d : Chip} (g : Grown c d) {m t : Model} (h : Sound c m) (k : Sound d
       let e = g .lines in
       both-ways Meets (leb (c .lines) line || ltb 1 level) (leb (d .lines) line || ltb 1 level) (rw (lt-leb (c .lines) line l, lt-leb (d .lines) line (omega arith)))
       (λ _. meets-refuse refl a)
-      (λ _. meets-done refl (levelled-alike (16 + line) (eqb level 1) (omega arith)))
+      (λ _. meets-done refl (put-lost (levelled-alike (16 + line) (eqb level 1) (omega arith)) (counted-same line (eqb level 1) l)))
+
+  pub lost-meets : (line : ℕ) → line < c .lines → Meets (lostCall c m line) (lostCall d t line)
+  unfolding lostCall
+  lost-meets line l =
+      let e = g .lines in
+      both-ways Meets (leb (c .lines) line) (leb (d .lines) line) (rw (lt-leb (c .lines) line l, lt-leb (d .lines) line (omega arith)))
+      (λ _. meets-refuse refl a)
+      (λ _. meets-done (a .lost .each line) a)
 
   pub nmi-meets : Meets (nmiCall m) (nmiCall t)
   nmi-meets = meets-done refl (pended 2 (omega arith))

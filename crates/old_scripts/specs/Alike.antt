@@ -11,7 +11,7 @@ use Rattle.rules.specs.Priorities.{execution}
 pub record Same {A : Type 0} (clear : A) (l r : List A) : Type 0 where
   pub each : (n : ℕ) → getD l n clear ≡ getD r n clear
 
--- the same flags, priority bytes and nest, and everything else equal
+-- the same flags, priority bytes, nest and counts of lost rises, and everything else equal
 pub record Alike (m t : Model) : Type 0 where
   pub pending : Same false (m .pending) (t .pending)
   pub active : Same false (m .active) (t .active)
@@ -19,6 +19,7 @@ pub record Alike (m t : Model) : Type 0 where
   pub level : Same false (m .level) (t .level)
   pub priority : Same 0 (m .priority) (t .priority)
   pub nest : Same 0 (m .nest) (t .nest)
+  pub lost : Same 0 (m .lost) (t .lost)
   pub core : m .core ≡ t .core
 
 -- "the same output lines": every number of an answer, and the top of the nest and the execution priority that it leaves; and what it leaves is alike

@@ -3,7 +3,7 @@ use mathlib.Core.Path.{_≡_, refl}
 use mathlib.Core.List.{List, [], _∷_}
 use mathlib.Core.Bool.{Bool, true, false}
 use Rattle.script.specs.declared.Event.{Event}
-use Rattle.script.specs.declared.Event.the-variants.{Read, Write, Line, Entry}
+use Rattle.script.specs.declared.Event.the-variants.{Read, Write, Line, Entry, Lost}
 use Rattle.script.specs.Event.{arity}
 use Rattle.script.specs.Reading.{before, then, numbersAt, eventOf, withArguments, withKind, readEvent}
 use Rattle.script.specs.Script.{followed, scriptFrom, scriptOf}
@@ -49,6 +49,11 @@ swtrig = refl
 lines : tested (Line 54 1 ∷ Line 54 2 ∷ Line 55 0 ∷ Line 240 0 ∷ Entry ∷ []) ≡ true ∷ true ∷ false ∷ false ∷ true ∷ []
 unfolding isOld
 lines = refl
+
+-- and so the count of a line
+counts : tested (Lost 54 ∷ Lost 55 ∷ Lost 240 ∷ []) ≡ true ∷ false ∷ false ∷ []
+unfolding isOld
+counts = refl
 
 -- the script of document 01 is an old one
 worked : areOld chip55 chip240 (scriptOf script01 .events) ≡ true

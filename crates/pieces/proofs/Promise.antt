@@ -79,16 +79,16 @@ module _ {c : Chip} {script : List ℕ} {m : Model} {p : Course} {old : List ℕ
   ran-refused e f h u k = ran-by _ (piece-refused c script m p (length old) e f h u) _ (rw k) old (puts-none 0 old) (omega arith)
 
 -- a call of which no event runs leaves the core, and so the model
-module _ {c : Chip} {script : List ℕ} {pending active enabled level : List Bool} {priority nest : List ℕ} {p : Course} {old : List ℕ} {r : Course} {new : List ℕ} where
-  unrun-by : {refusal number offset : ℕ} → pieceOf c script (modelOf pending active enabled level priority nest (p .core)) p (length old) ≡ record { model = modelOf pending active enabled level priority nest (p .core); at = p .at; events = p .events; ended = leb lineRoom (length old); refusal = refusal; text = lineAlone number offset (length old) } → Unrun p refusal number offset old r new → Ran c script (modelOf pending active enabled level priority nest (p .core)) p old (modelOf pending active enabled level priority nest (r .core)) r new
+module _ {c : Chip} {script : List ℕ} {pending active enabled level : List Bool} {priority nest lost : List ℕ} {p : Course} {old : List ℕ} {r : Course} {new : List ℕ} where
+  unrun-by : {refusal number offset : ℕ} → pieceOf c script (modelOf pending active enabled level priority nest lost (p .core)) p (length old) ≡ record { model = modelOf pending active enabled level priority nest lost (p .core); at = p .at; events = p .events; ended = leb lineRoom (length old); refusal = refusal; text = lineAlone number offset (length old) } → Unrun p refusal number offset old r new → Ran c script (modelOf pending active enabled level priority nest lost (p .core)) p old (modelOf pending active enabled level priority nest lost (r .core)) r new
   unrun-by q n =
-      subst (λ (x : Core). Ran c script (modelOf pending active enabled level priority nest (p .core)) p old (modelOf pending active enabled level priority nest x) r new) (sym (ap (λ (x : Course). x .core) (n .course)))
+      subst (λ (x : Core). Ran c script (modelOf pending active enabled level priority nest lost (p .core)) p old (modelOf pending active enabled level priority nest lost x) r new) (sym (ap (λ (x : Course). x .core) (n .course)))
       (ran-by _ q r (n .course) new (n .puts) (n .within))
 
-  pub ran-unadmitted : p .ended ≡ false → fits c ≡ false → Unrun p 17 17 0 old r new → Ran c script (modelOf pending active enabled level priority nest (p .core)) p old (modelOf pending active enabled level priority nest (r .core)) r new
+  pub ran-unadmitted : p .ended ≡ false → fits c ≡ false → Unrun p 17 17 0 old r new → Ran c script (modelOf pending active enabled level priority nest lost (p .core)) p old (modelOf pending active enabled level priority nest lost (r .core)) r new
   ran-unadmitted e f n = unrun-by (piece-unadmitted c script _ p (length old) e f) n
 
-  pub ran-long : p .ended ≡ false → T (fits c) → 65536 < length script → Unrun p 0 15 65536 old r new → Ran c script (modelOf pending active enabled level priority nest (p .core)) p old (modelOf pending active enabled level priority nest (r .core)) r new
+  pub ran-long : p .ended ≡ false → T (fits c) → 65536 < length script → Unrun p 0 15 65536 old r new → Ran c script (modelOf pending active enabled level priority nest lost (p .core)) p old (modelOf pending active enabled level priority nest lost (r .core)) r new
   ran-long e f long n = unrun-by (piece-long c script _ p (length old) e f long ∙ gone-long c script _ p (length old) long (leb lineRoom (length old)) refl) n
 
 -- a run of which no event runs: no room for its line, and its line
@@ -148,6 +148,6 @@ module _ {c : Chip} {script : List ℕ} {m : Model} {p : Course} {old : List ℕ
       ran-by _ q r (d .done ∙ rw l) newer n (omega (arith, d .within))
 
 -- closing leaves the core, and so the model
-pub ran-closed : {c : Chip} {script : List ℕ} {m : Model} {p : Course} {old : List ℕ} {pending active enabled level : List Bool} {priority nest : List ℕ} {k : Core} {at events wrote : ℕ} {new : List ℕ} → Underway c script m p → Going c script m (p .at) (p .events) old (modelOf pending active enabled level priority nest k) at events wrote new → lineRoom ≤ length old - wrote → (r : Course) (newer : List ℕ) → Closed script (going k at events wrote) new r newer → Ran c script m p old (modelOf pending active enabled level priority nest (r .core)) r newer
-ran-closed {c} {script} {m} {p} {old} {pending} {active} {enabled} {level} {priority} {nest} y g h r newer d =
-    subst (λ (x : Core). Ran c script m p old (modelOf pending active enabled level priority nest x) r newer) (sym (ap (λ (x : Course). x .core) (d .done))) (closed-at y g h r newer d)
+pub ran-closed : {c : Chip} {script : List ℕ} {m : Model} {p : Course} {old : List ℕ} {pending active enabled level : List Bool} {priority nest lost : List ℕ} {k : Core} {at events wrote : ℕ} {new : List ℕ} → Underway c script m p → Going c script m (p .at) (p .events) old (modelOf pending active enabled level priority nest lost k) at events wrote new → lineRoom ≤ length old - wrote → (r : Course) (newer : List ℕ) → Closed script (going k at events wrote) new r newer → Ran c script m p old (modelOf pending active enabled level priority nest lost (r .core)) r newer
+ran-closed {c} {script} {m} {p} {old} {pending} {active} {enabled} {level} {priority} {nest} {lost} y g h r newer d =
+    subst (λ (x : Core). Ran c script m p old (modelOf pending active enabled level priority nest lost x) r newer) (sym (ap (λ (x : Course). x .core) (d .done))) (closed-at y g h r newer d)

@@ -8,6 +8,7 @@ use native.Mathlib.Omega.{arith}
 use lib.ListN.{length, getD, take, drop, replicate, take-append-drop, drop-of-length-le}
 use lib.Seq.{length-take-le, drop-cons, drop-length, take-at, getD-append-add}
 use lib.Dec.{T, eqb, eqb→eq}
+use Rattle.bools.specs.Tests.{by-cases}
 use Rattle.flag_words.specs.Flags.{on}
 use Rattle.demand3.proofs.Parts.{getD-fresh}
 use Rattle.places.specs.Places.{somePast, reach, nonzero, occupied, InBlocks, padded}
@@ -85,11 +86,11 @@ right-false false b q = q
 
 pub reach-fits : (holds : ℕ → Bool) (n size : ℕ) → n ≤ size → reach holds n size ≤ size
 unfolding reach
-reach-fits holds n size h = side (somePast holds n (size - n))
-  where
-    side : (b : Bool) → cond b size n ≤ size
-    side true = omega arith
-    side false = h
+reach-fits holds n size h = by-cases (λ (k : ℕ). k ≤ size) (somePast holds n (size - n)) (λ _. omega arith) (λ _. h)
+
+pub reach-least : (holds : ℕ → Bool) (n size : ℕ) → n ≤ size → n ≤ reach holds n size
+unfolding reach
+reach-least holds n size h = by-cases (λ (k : ℕ). n ≤ k) (somePast holds n (size - n)) (λ _. h) (λ _. omega arith)
 
 module _ {A : Type 0} (clear : A) (l : List A) (holds : ℕ → Bool) (free : (i : ℕ) → holds i ≡ false → getD l i clear ≡ clear) where
   -- where nothing stands past n the list is clear there

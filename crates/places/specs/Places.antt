@@ -1,4 +1,4 @@
--- The arrays of a state have 256 places (248 of the nest) whatever its chip, and a chip's lists are their first places. The others are clear:
+-- The arrays of a state have 256 places (248 of the nest, 240 of the counts of lost rises) whatever its chip, and a chip's lists are their first places. The others are clear:
 -- where something stands there, the lists are the arrays whole, and have not the chip's length.
 use Prim.Native.Nat.{ℕ, zero, suc, _+_, _-_, _≤_}
 use mathlib.Core.Path.{_≡_}
@@ -29,11 +29,12 @@ abbrev pub occupied : List Bool → List Bool → List Bool → List Bool → Li
 occupied pending active enabled level priority i =
     ((on pending i || on active i) || (on enabled i || on level i)) || nonzero priority i
 
-abbrev pub reachOf : Chip → List Bool → List Bool → List Bool → List Bool → List ℕ → List ℕ → Reach
-reachOf c pending active enabled level priority nest =
+abbrev pub reachOf : Chip → List Bool → List Bool → List Bool → List Bool → List ℕ → List ℕ → List ℕ → Reach
+reachOf c pending active enabled level priority nest lost =
     record {
       places = reach (occupied pending active enabled level priority) (flagCount c) 256;
       nest = reach (nonzero nest) (exceptionCount c) 248;
+      lost = reach (nonzero lost) (c .lines) 240;
     }
 
 -- What the scan in blocks of 64 places asks: the chip's places end 64 or more before the array's end, or at it.
@@ -43,6 +44,7 @@ InBlocks n size = (n + 64 ≤ size) ⊎ (n ≡ size)
 pub record Blocks (c : Chip) : Type 0 where
   pub flags : InBlocks (flagCount c) 256
   pub nest : InBlocks (exceptionCount c) 248
+  pub lost : InBlocks (c .lines) 240
 
 -- a list with clear places up to the array's size
 abbrev pub padded : {A : Type 0} → ℕ → A → List A → List A

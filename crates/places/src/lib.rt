@@ -7,10 +7,11 @@ ghost use Prim.Native.Nat.{_-_, _≤_};
 ghost use Rattle.places.specs.Places.{somePast, nonzero, occupied, InBlocks, Blocks, reachOf};
 use rules::Chip;
 
-// Of the arrays at exception numbers, and of the nest.
+// Of the arrays at exception numbers, of the nest, and of the counts of lost rises.
 pub struct Reach {
     pub places: usize,
     pub nest: usize,
+    pub lost: usize,
 }
 
 fn either(a: bool, b: bool) -> bool
@@ -99,6 +100,35 @@ fn nest_past(nest: &[u8; 248], n: usize) -> bool
     found
 }
 
+fn lost_block(lost: &[u16; 240], from: usize) -> bool
+    requires { ⌜ from ≤ 176 ⌝ }
+    ensures { λ r. ⌜ r ≡ somePast (nonzero (now (lost .entry))) from 64 ⌝ }
+{
+    let mut found = false;
+    let mut k = 0;
+    while k < 64 {
+        found = either(lost[from + k] != 0, found);
+        k += 1;
+    }
+    found
+}
+
+fn lost_past(lost: &[u16; 240], n: usize) -> bool
+    requires { ⌜ InBlocks n 240 ⌝ }
+    ensures { λ r. ⌜ r ≡ somePast (nonzero (now (lost .entry))) n (240 - n) ⌝ }
+{
+    let mut found = false;
+    let mut i = n;
+    while i <= 176 {
+        found = either(lost_block(lost, i), found);
+        i += 64;
+    }
+    if n <= 176 {
+        return either(lost_block(lost, 176), found);
+    }
+    found
+}
+
 fn all_or(past: bool, size: usize, n: usize) -> usize
     ensures { λ r. ⌜ r ≡ cond past size n ⌝ }
 {
@@ -113,16 +143,20 @@ pub fn reach_of(
     level: &[bool; 256],
     priority: &[u8; 256],
     nest: &[u8; 248],
+    lost: &[u16; 240],
 ) -> Reach
     requires { ⌜ Blocks chip ⌝ }
-    ensures { λ r. ⌜ r ≡ reachOf chip (now (pending .entry)) (now (active .entry)) (now (enabled .entry)) (now (level .entry)) (now (priority .entry)) (now (nest .entry)) ⌝ }
+    ensures { λ r. ⌜ r ≡ reachOf chip (now (pending .entry)) (now (active .entry)) (now (enabled .entry)) (now (level .entry)) (now (priority .entry)) (now (nest .entry)) (now (lost .entry)) ⌝ }
 {
     let flags = exceptions::flag_count(chip);
     let count = exceptions::exception_count(chip);
     let places = places_past(pending, active, enabled, level, priority, flags);
     let nested = nest_past(nest, count);
+    let lines = chip.lines as usize;
+    let counted = lost_past(lost, lines);
     Reach {
         places: all_or(places, 256, flags),
         nest: all_or(nested, 248, count),
+        lost: all_or(counted, 240, lines),
     }
 }

@@ -5,15 +5,18 @@ use mathlib.Core.Logic.{_⊎_, inl, inr}
 use mathlib.Core.List.{List, [], _∷_, List·Memᴰ, List·Memᴰ·head, List·Memᴰ·tail, List·Memᴰ·not-nil, List·Memᴰ·cases-cons}
 use mathlib.Core.Bool.{Bool, true, false, _&&_, _||_}
 use native.Mathlib.Omega.{arith}
+use lib.ListN.{getD}
 use lib.Dec.{T, ltb, leb, eqb, ltb→lt, lt→ltb, le→leb, eqb→eq, eqb-refl}
 use Rattle.bits.specs.Words.{kept}
 use Rattle.bits.specs.WordLaws.{kept-lt}
-use Rattle.bools.specs.Tests.{is-false, both, join, either, or-right, by-cases}
+use Rattle.bools.specs.Tests.{true-is, is-false, both, join, either, or-right, by-cases}
+use Rattle.bools.specs.Every.{every, every-of}
 use Rattle.rules.specs.declared.Chip.{Chip}
 use Rattle.rules.specs.declared.Place.{Place}
 use Rattle.rules.specs.declared.Place.the-variants.{Exception, Enable, Line}
 use Rattle.rules.specs.Chip.{isIn, flagCount, systemExceptions, isLine, stands}
 use Rattle.rules.specs.SystemBlock.{keptVtable}
+use Rattle.rules.specs.Sound.{countSound}
 use Rattle.rules.specs.Nesting.{linkFits}
 
 -- ---- a number in a list
@@ -59,6 +62,12 @@ pub line-stands : (c : Chip) (n : ℕ) (place : Place) → T (isLine c n) → T 
 line-stands c n Exception t = or-right (isIn n systemExceptions) (isLine c n) t
 line-stands c n Enable t = or-right (isIn n (4 ∷ 5 ∷ 6 ∷ [])) (isLine c n) t
 line-stands c n Line t = t
+
+-- ---- counts
+
+pub counts-held : (lost : List ℕ) (k : ℕ) → ((line : ℕ) → getD lost line 0 ≤ 65535) → every (countSound lost) k ≡ true
+unfolding countSound
+counts-held lost k f = true-is (every (countSound lost) k) (every-of (countSound lost) k (λ line _. le→leb (getD lost line 0) 65535 (f line)))
 
 -- ---- the vector table
 

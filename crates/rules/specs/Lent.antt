@@ -8,9 +8,9 @@ use Rattle.rules.specs.declared.Outcome.{Outcome}
 use Rattle.rules.specs.Model.{Model, Answer, withCore}
 
 -- where all lists are lent
-abbrev pub modelOf : List Bool → List Bool → List Bool → List Bool → List ℕ → List ℕ → Core → Model
-modelOf pending active enabled level priority nest core =
-    record { pending = pending; active = active; enabled = enabled; level = level; priority = priority; nest = nest; core = core }
+abbrev pub modelOf : List Bool → List Bool → List Bool → List Bool → List ℕ → List ℕ → List ℕ → Core → Model
+modelOf pending active enabled level priority nest lost core =
+    record { pending = pending; active = active; enabled = enabled; level = level; priority = priority; nest = nest; lost = lost; core = core }
 
 -- an outcome with the lists as they are left, as the rules' answer
 abbrev pub answer : Outcome → Model → Answer

@@ -15,8 +15,8 @@ use Rattle.bools.specs.Tests.{not-and-not, by-cases, set-by, clear-by}
 use Rattle.rules.specs.declared.Bank.the-variants.{EnableSet, EnableClear, PendingSet, PendingClear}
 use Rattle.rules.specs.declared.Register.the-variants.{Flags}
 use Rattle.rules.specs.declared.Chip.{Chip}
-use Rattle.rules.specs.Model.{Model, Answer, withPending, withEnabled, withLevel}
-use Rattle.rules.specs.Events.{levelled, lineCall}
+use Rattle.rules.specs.Model.{Model, Answer, withPending, withEnabled, withLevel, withLost}
+use Rattle.rules.specs.Events.{levelled, losesRise, counted, lineCall}
 use Rattle.rules.specs.Map.{flagWords, blockRegister, registerAt, registerOf}
 use Rattle.rules.specs.Writes.{clearable, bankWritten, wordWritten}
 use Rattle.rules.specs.Registers.{written}
@@ -188,8 +188,15 @@ unfolding levelled
 level-same n true m e = rw e (ap (λ (l : List Bool). withLevel l m) (ap (set (m .level) n) (sym e) ∙ set-same (m .level) n))
 level-same n false m e = ap (λ (l : List Bool). withLevel l m) (ap (set (m .level) n) (sym e) ∙ set-same (m .level) n)
 
+-- nor is it a rise that is lost
+counted-same : (line : ℕ) (high : Bool) (m : Model) → on (m .level) (16 + line) ≡ high → counted line high m ≡ m .lost
+unfolding counted losesRise
+counted-same line true m e = rw e
+counted-same line false m e = refl
+
 -- "An unchanged level changes nothing."
 pub unchanged-level : (c : Chip) (m : Model) (n level : ℕ) → on (m .level) (16 + n) ≡ eqb level 1 → lineCall c m n level .next ≡ m
 unfolding lineCall
 unchanged-level c m n level e =
-    by-cases (λ (a : Answer). a .next ≡ m) (leb (c .lines) n || ltb 1 level) (λ _. refl) (λ _. level-same (16 + n) (eqb level 1) m e)
+    by-cases (λ (a : Answer). a .next ≡ m) (leb (c .lines) n || ltb 1 level) (λ _. refl)
+    (λ _ i. withLost (counted-same n (eqb level 1) m e i) (level-same (16 + n) (eqb level 1) m e i))

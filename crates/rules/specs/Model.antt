@@ -14,8 +14,9 @@ use Rattle.rules.specs.declared.Chip.{Chip}
 use Rattle.rules.specs.Chip.{flagCount, exceptionCount}
 
 -- Flags and priority bytes stand at exception numbers. The nest (document 01's word for the stack of active exceptions) holds
--- exception numbers, the newest last; its first `depth` places are in use. `core` is what holds no list: `depth`, the group setting p as
--- `group`, the masks, the timer, the guard, the system block.
+-- exception numbers, the newest last; its first `depth` places are in use. `lost` stands at line numbers (document 02, E1: "Keep for each line
+-- the number of such rises since the fresh state, as part of the model's state"). `core` is what holds no list: `depth`, the group setting p
+-- as `group`, the masks, the timer, the guard, the system block.
 pub record Model : Type 0 where
   pub pending : List Bool
   pub active : List Bool
@@ -23,6 +24,7 @@ pub record Model : Type 0 where
   pub level : List Bool
   pub priority : List ℕ
   pub nest : List ℕ
+  pub lost : List ℕ
   pub core : Core
 
 -- ---- the nest, newest first
@@ -63,31 +65,35 @@ fresh c =
       level = replicate (flagCount c) false;
       priority = replicate (flagCount c) 0;
       nest = replicate (exceptionCount c) 0;
+      lost = replicate (c .lines) 0;
       core = freshCore;
     }
 
 -- ---- a model with one part put anew
 
 abbrev pub withPending : List Bool → Model → Model
-withPending x m = record { pending = x; active = m .active; enabled = m .enabled; level = m .level; priority = m .priority; nest = m .nest; core = m .core }
+withPending x m = record { pending = x; active = m .active; enabled = m .enabled; level = m .level; priority = m .priority; nest = m .nest; lost = m .lost; core = m .core }
 
 abbrev pub withActive : List Bool → Model → Model
-withActive x m = record { pending = m .pending; active = x; enabled = m .enabled; level = m .level; priority = m .priority; nest = m .nest; core = m .core }
+withActive x m = record { pending = m .pending; active = x; enabled = m .enabled; level = m .level; priority = m .priority; nest = m .nest; lost = m .lost; core = m .core }
 
 abbrev pub withEnabled : List Bool → Model → Model
-withEnabled x m = record { pending = m .pending; active = m .active; enabled = x; level = m .level; priority = m .priority; nest = m .nest; core = m .core }
+withEnabled x m = record { pending = m .pending; active = m .active; enabled = x; level = m .level; priority = m .priority; nest = m .nest; lost = m .lost; core = m .core }
 
 abbrev pub withLevel : List Bool → Model → Model
-withLevel x m = record { pending = m .pending; active = m .active; enabled = m .enabled; level = x; priority = m .priority; nest = m .nest; core = m .core }
+withLevel x m = record { pending = m .pending; active = m .active; enabled = m .enabled; level = x; priority = m .priority; nest = m .nest; lost = m .lost; core = m .core }
 
 abbrev pub withPriority : List ℕ → Model → Model
-withPriority x m = record { pending = m .pending; active = m .active; enabled = m .enabled; level = m .level; priority = x; nest = m .nest; core = m .core }
+withPriority x m = record { pending = m .pending; active = m .active; enabled = m .enabled; level = m .level; priority = x; nest = m .nest; lost = m .lost; core = m .core }
 
 abbrev pub withNest : List ℕ → Model → Model
-withNest x m = record { pending = m .pending; active = m .active; enabled = m .enabled; level = m .level; priority = m .priority; nest = x; core = m .core }
+withNest x m = record { pending = m .pending; active = m .active; enabled = m .enabled; level = m .level; priority = m .priority; nest = x; lost = m .lost; core = m .core }
+
+abbrev pub withLost : List ℕ → Model → Model
+withLost x m = record { pending = m .pending; active = m .active; enabled = m .enabled; level = m .level; priority = m .priority; nest = m .nest; lost = x; core = m .core }
 
 abbrev pub withCore : Core → Model → Model
-withCore x m = record { pending = m .pending; active = m .active; enabled = m .enabled; level = m .level; priority = m .priority; nest = m .nest; core = x }
+withCore x m = record { pending = m .pending; active = m .active; enabled = m .enabled; level = m .level; priority = m .priority; nest = m .nest; lost = m .lost; core = x }
 
 -- ---- a core with one part put anew, and a model with such a core
 

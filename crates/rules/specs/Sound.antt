@@ -33,6 +33,10 @@ unfoldable pub byteSound : Chip → List ℕ → ℕ → Bool
 byteSound c bytes n =
     eqb (keptByte (c .bits) (getD bytes n 0)) (getD bytes n 0) && (hasByte c n || eqb (getD bytes n 0) 0)
 
+-- Document 02, E1: a count is "holding at 65,535"; where there is no line the list has no place
+unfoldable pub countSound : List ℕ → ℕ → Bool
+countSound lost line = leb (getD lost line 0) 65535
+
 -- an active exception is nested
 unfoldable pub nestedSound : List Bool → List ℕ → ℕ → Bool
 nestedSound active nested n = implies (on active n) (isIn n nested)
@@ -81,6 +85,7 @@ isSized c m =
     && eqb (length (m .level)) (flagCount c)
     && eqb (length (m .priority)) (flagCount c)
     && eqb (length (m .nest)) (exceptionCount c)
+    && eqb (length (m .lost)) (c .lines)
 
 unfoldable pub isSound : Chip → Model → Bool
 isSound c m =
@@ -88,6 +93,7 @@ isSound c m =
     && soundFlags c (m .pending) (m .active) (m .enabled) (m .level)
     && every (byteSound c (m .priority)) (flagCount c)
     && soundNest c (m .active) (m .nest) (m .core .depth)
+    && every (countSound (m .lost)) (c .lines)
     && ltb (m .core .group) 8
     && eqb (keptByte (c .bits) (m .core .masks .basepri)) (m .core .masks .basepri)
     && soundTimer (m .core .timer)
@@ -118,6 +124,11 @@ pub record Places (c : Chip) (nest : List ℕ) (depth : ℕ) : Type 0 where
   pub size : length nest ≡ exceptionCount c
   pub unused : (i : ℕ) → depth ≤ i → getD nest i 0 ≡ 0
 
+-- a count for each line, held at 65,535
+pub record Counts (c : Chip) (l : List ℕ) : Type 0 where
+  pub size : length l ≡ c .lines
+  pub most : (line : ℕ) → getD l line 0 ≤ 65535
+
 pub record SoundSystem (c : Chip) (s : System) : Type 0 where
   pub vtable : keptVtable c (s .vtable) ≡ s .vtable
   pub sysctrl : keptSysctrl (s .sysctrl) ≡ s .sysctrl
@@ -141,4 +152,5 @@ pub record Sound (c : Chip) (m : Model) : Type 0 where
   pub priority : PriorityBytes c (m .priority)
   pub places : Places c (m .nest) (m .core .depth)
   pub nested : Nested (m .active) (stack m)
+  pub lost : Counts c (m .lost)
   pub core : SoundCore c (m .core)

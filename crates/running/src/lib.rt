@@ -18,13 +18,24 @@ fn is_usable(
     level: &[bool],
     priority: &[u8],
     nest: &[u8],
+    lost: &[u16],
     p: Course,
 ) -> bool
     requires { ⌜ FewLines chip ⌝ }
-    ensures { λ r. ⌜ r ≡ isUsable chip (modelOf (now (pending .entry)) (now (active .entry)) (now (enabled .entry)) (now (level .entry)) (now (priority .entry)) (now (nest .entry)) (p .core)) p ⌝ }
+    ensures { λ r. ⌜ r ≡ isUsable chip (modelOf (now (pending .entry)) (now (active .entry)) (now (enabled .entry)) (now (level .entry)) (now (priority .entry)) (now (nest .entry)) (now (lost .entry)) (p .core)) p ⌝ }
 {
     let core = p.core;
-    if sound_state::is_sound(chip, pending, active, enabled, level, priority, nest, core) {
+    if sound_state::is_sound(
+        chip,
+        pending,
+        active,
+        enabled,
+        level,
+        priority,
+        nest,
+        lost,
+        core,
+    ) {
         return p.events as usize <= p.at;
     }
     false
@@ -40,11 +51,12 @@ fn run_events(
     level: &mut [bool],
     priority: &mut [u8],
     nest: &mut [u8],
+    lost: &mut [u16],
     course: Course,
     out: &mut [u8],
 ) -> Course
-    requires { ⌜ FewLines chip × Underway chip (now script) (modelOf (now pending) (now active) (now enabled) (now level) (now priority) (now nest) (course .core)) course ⌝ }
-    ensures { λ r. ⌜ Ran chip (now (script .entry)) (modelOf (now (pending .entry)) (now (active .entry)) (now (enabled .entry)) (now (level .entry)) (now (priority .entry)) (now (nest .entry)) (course .core)) course (now (out .entry)) (modelOf (now (pending .exit)) (now (active .exit)) (now (enabled .exit)) (now (level .exit)) (now (priority .exit)) (now (nest .exit)) (r .core)) r (now (out .exit)) ⌝ }
+    requires { ⌜ FewLines chip × Underway chip (now script) (modelOf (now pending) (now active) (now enabled) (now level) (now priority) (now nest) (now lost) (course .core)) course ⌝ }
+    ensures { λ r. ⌜ Ran chip (now (script .entry)) (modelOf (now (pending .entry)) (now (active .entry)) (now (enabled .entry)) (now (level .entry)) (now (priority .entry)) (now (nest .entry)) (now (lost .entry)) (course .core)) course (now (out .entry)) (modelOf (now (pending .exit)) (now (active .exit)) (now (enabled .exit)) (now (level .exit)) (now (priority .exit)) (now (nest .exit)) (now (lost .exit)) (r .core)) r (now (out .exit)) ⌝ }
 {
     let mut core = course.core;
     let mut limit = sound_state::execution(priority, nest, core);
@@ -65,6 +77,7 @@ fn run_events(
                     level,
                     priority,
                     nest,
+                    lost,
                     core,
                     limit,
                     event,
@@ -93,11 +106,12 @@ pub fn run_some(
     level: &mut [bool],
     priority: &mut [u8],
     nest: &mut [u8],
+    lost: &mut [u16],
     course: Course,
     out: &mut [u8],
 ) -> Course
     requires { ⌜ FewLines chip ⌝ }
-    ensures { λ r. ⌜ Ran chip (now (script .entry)) (modelOf (now (pending .entry)) (now (active .entry)) (now (enabled .entry)) (now (level .entry)) (now (priority .entry)) (now (nest .entry)) (course .core)) course (now (out .entry)) (modelOf (now (pending .exit)) (now (active .exit)) (now (enabled .exit)) (now (level .exit)) (now (priority .exit)) (now (nest .exit)) (r .core)) r (now (out .exit)) ⌝ }
+    ensures { λ r. ⌜ Ran chip (now (script .entry)) (modelOf (now (pending .entry)) (now (active .entry)) (now (enabled .entry)) (now (level .entry)) (now (priority .entry)) (now (nest .entry)) (now (lost .entry)) (course .core)) course (now (out .entry)) (modelOf (now (pending .exit)) (now (active .exit)) (now (enabled .exit)) (now (level .exit)) (now (priority .exit)) (now (nest .exit)) (now (lost .exit)) (r .core)) r (now (out .exit)) ⌝ }
 {
     if course.ended {
         return pieces::unmoved(course);
@@ -116,6 +130,7 @@ pub fn run_some(
         level,
         priority,
         nest,
+        lost,
         course,
     ) {
         return run_events(
@@ -127,6 +142,7 @@ pub fn run_some(
             level,
             priority,
             nest,
+            lost,
             course,
             out,
         );

@@ -1,4 +1,4 @@
--- The events of a script and their numbers (document 01, "Scripts").
+-- The events of a script and their numbers (document 01, "Scripts"; document 02, E1).
 use Prim.Native.Nat.{ℕ}
 use mathlib.Core.Path.{_≡_}
 use mathlib.Core.List.{List, [], _∷_}
@@ -7,7 +7,7 @@ use lib.Dec.{eqb}
 use Rattle.script.specs.declared.AccessKind.{AccessKind}
 use Rattle.script.specs.declared.AccessKind.the-variants as kind
 use Rattle.script.specs.declared.Event.{Event}
-use Rattle.script.specs.declared.Event.the-variants.{Read, Write, Line, Nmi, Tick, Fault, Svc, Special, Entry, Return, Access}
+use Rattle.script.specs.declared.Event.the-variants.{Read, Write, Line, Nmi, Tick, Fault, Svc, Special, Entry, Return, Access, Lost}
 
 -- "Kinds: 0 read, 1 write, 2 fetch", or another number
 unfoldable pub accessNumber : AccessKind → ℕ
@@ -21,7 +21,7 @@ unfoldable pub accessKind : ℕ → AccessKind
 accessKind n = cond (eqb n 0) kind.Read (cond (eqb n 1) kind.Write (cond (eqb n 2) kind.Fetch (kind.Other n)))
 
 -- "1 read (width, address), 2 write (width, address, value), 3 line (line, level), 4 NMI, 5 tick, 6 fault (bit, address), 7 SVC,
--- 8 special (which, value), 9 entry, 10 return (value), 11 access (kind, width, address)"
+-- 8 special (which, value), 9 entry, 10 return (value), 11 access (kind, width, address)"; document 02, E1: "New script event 12 (line)"
 unfoldable pub kindOf : Event → ℕ
 kindOf (Read width address) = 1
 kindOf (Write width address value) = 2
@@ -34,6 +34,7 @@ kindOf (Special which value) = 8
 kindOf Entry = 9
 kindOf (Return value) = 10
 kindOf (Access k width address) = 11
+kindOf (Lost line) = 12
 
 unfoldable pub argumentsOf : Event → List ℕ
 argumentsOf (Read width address) = width ∷ (address ∷ [])
@@ -47,6 +48,7 @@ argumentsOf (Special which value) = which ∷ (value ∷ [])
 argumentsOf Entry = []
 argumentsOf (Return value) = value ∷ []
 argumentsOf (Access k width address) = accessNumber k ∷ (width ∷ (address ∷ []))
+argumentsOf (Lost line) = line ∷ []
 
 -- How many arguments a kind has. A number that is no kind has none, so that refusal 14 looks at no argument.
 unfoldable pub arity : ℕ → ℕ
@@ -58,7 +60,8 @@ arity kind =
     (cond (eqb kind 8) 2
     (cond (eqb kind 10) 1
     (cond (eqb kind 11) 3
-    0))))))
+    (cond (eqb kind 12) 1
+    0)))))))
 
 -- the same event with its access kind in the case of its number
 unfoldable pub normal : Event → Event
@@ -73,6 +76,7 @@ normal (Special which value) = Special which value
 normal Entry = Entry
 normal (Return value) = Return value
 normal (Access k width address) = Access (accessKind (accessNumber k)) width address
+normal (Lost line) = Lost line
 
 abbrev pub Normal : Event → Type 0
 Normal e = normal e ≡ e

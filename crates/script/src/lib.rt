@@ -1,4 +1,4 @@
-// Scripts (document 01): the events that a script holds, one event read and one written.
+// Scripts (documents 01 and 02): the events that a script holds, one event read and one written.
 ghost use mathlib.Core.Path.{_≡_};
 ghost use Rattle.script.specs.Event.{accessNumber, accessKind, arity};
 
@@ -29,6 +29,7 @@ pub enum Event {
     Entry,
     Return(u32),
     Access(AccessKind, u32, u32),
+    Lost(u32),
 }
 
 // An event and the offset after it, or the number of the refusal.
@@ -77,6 +78,7 @@ fn arity(kind: u32) -> u32
         8 => 2,
         10 => 1,
         11 => 3,
+        12 => 1,
         _ => 0,
     }
 }

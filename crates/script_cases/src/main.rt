@@ -64,6 +64,7 @@ fn show(e: Event) {
         Event::Entry => show_numbers(9, 0, 0, 0),
         Event::Return(value) => show_numbers(10, value, 0, 0),
         Event::Access(kind, width, address) => show_access(kind, width, address),
+        Event::Lost(line) => show_numbers(12, line, 0, 0),
     }
 }
 
@@ -173,10 +174,12 @@ fn events() {
     );
     text(b"all kinds\n");
     show_script(
-        b"\x01\x04\x10\x02\x01\x02\x03\x03\x36\x01\x04\x05\x06\x09\x64\x07\x08\x02\x20\x09\x0A\x05\x0B\x00\x04\x08\x0B\x01\x02\x03\x0B\x02\x02\x08\x0B\x07\x02\x08",
+        b"\x01\x04\x10\x02\x01\x02\x03\x03\x36\x01\x04\x05\x06\x09\x64\x07\x08\x02\x20\x09\x0A\x05\x0B\x00\x04\x08\x0B\x01\x02\x03\x0B\x02\x02\x08\x0B\x07\x02\x08\x0C\x36",
     );
     text(b"broken\n");
     show_script(b"\x00");
+    show_script(b"\x0E\x80\x00");
+    show_script(b"\x0C");
     show_script(b"\x0C\x80\x00");
     show_script(b"\x8C\x00");
     show_script(b"\xFF\xFF\xFF\xFF\x0F");
@@ -196,6 +199,8 @@ fn main() {
     write(9, Event::Tick);
     write(0, Event::Access(AccessKind::Fetch, 2, 127));
     write(0, Event::Access(AccessKind::Other(1), 4, 16384));
+    write(5, Event::Lost(239));
+    write(6, Event::Lost(239));
     long();
     longest();
 }

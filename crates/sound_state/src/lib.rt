@@ -23,8 +23,9 @@ fn is_sized(
     level: &[bool],
     priority: &[u8],
     nest: &[u8],
+    lost: &[u16],
 ) -> bool
-    ensures { λ r. ⌜ ((core : Core) → r ≡ isSized chip (modelOf (now (pending .entry)) (now (active .entry)) (now (enabled .entry)) (now (level .entry)) (now (priority .entry)) (now (nest .entry)) core)) ⌝ }
+    ensures { λ r. ⌜ ((core : Core) → r ≡ isSized chip (modelOf (now (pending .entry)) (now (active .entry)) (now (enabled .entry)) (now (level .entry)) (now (priority .entry)) (now (nest .entry)) (now (lost .entry)) core)) ⌝ }
 {
     let flags = exceptions::flag_count(chip);
     if pending.len() != flags {
@@ -42,7 +43,10 @@ fn is_sized(
     if priority.len() != flags {
         return false;
     }
-    nest.len() == exceptions::exception_count(chip)
+    if nest.len() != exceptions::exception_count(chip) {
+        return false;
+    }
+    lost.len() == chip.lines as usize
 }
 
 // The parts that hold no list.
@@ -68,6 +72,7 @@ fn is_core_sound(chip: Chip, core: Core) -> bool
     system::stored::sound_system(chip, system)
 }
 
+// No count is looked at: a `u16` is at most 65,535.
 pub fn is_sound(
     chip: Chip,
     pending: &[bool],
@@ -76,11 +81,12 @@ pub fn is_sound(
     level: &[bool],
     priority: &[u8],
     nest: &[u8],
+    lost: &[u16],
     core: Core,
 ) -> bool
-    ensures { λ r. ⌜ r ≡ isSound chip (modelOf (now (pending .entry)) (now (active .entry)) (now (enabled .entry)) (now (level .entry)) (now (priority .entry)) (now (nest .entry)) core) ⌝ }
+    ensures { λ r. ⌜ r ≡ isSound chip (modelOf (now (pending .entry)) (now (active .entry)) (now (enabled .entry)) (now (level .entry)) (now (priority .entry)) (now (nest .entry)) (now (lost .entry)) core) ⌝ }
 {
-    if !is_sized(chip, pending, active, enabled, level, priority, nest) {
+    if !is_sized(chip, pending, active, enabled, level, priority, nest, lost) {
         return false;
     }
     if !soundness::sound_flags(chip, pending, active, enabled, level) {

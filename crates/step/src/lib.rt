@@ -18,12 +18,13 @@ pub fn act(
     level: &mut [bool],
     priority: &mut [u8],
     nest: &mut [u8],
+    lost: &mut [u16],
     core: Core,
     limit: i32,
     event: Event,
 ) -> Outcome
-    requires { ⌜ Ready chip (modelOf (now pending) (now active) (now enabled) (now level) (now priority) (now nest) core) limit ⌝ }
-    ensures { λ r. ⌜ answer r (modelOf (now (pending .exit)) (now (active .exit)) (now (enabled .exit)) (now (level .exit)) (now (priority .exit)) (now (nest .exit)) core) ≡ actOf chip (modelOf (now (pending .entry)) (now (active .entry)) (now (enabled .entry)) (now (level .entry)) (now (priority .entry)) (now (nest .entry)) core) event ⌝ }
+    requires { ⌜ Ready chip (modelOf (now pending) (now active) (now enabled) (now level) (now priority) (now nest) (now lost) core) limit ⌝ }
+    ensures { λ r. ⌜ answer r (modelOf (now (pending .exit)) (now (active .exit)) (now (enabled .exit)) (now (level .exit)) (now (priority .exit)) (now (nest .exit)) (now (lost .exit)) core) ≡ actOf chip (modelOf (now (pending .entry)) (now (active .entry)) (now (enabled .entry)) (now (level .entry)) (now (priority .entry)) (now (nest .entry)) (now (lost .entry)) core) event ⌝ }
 {
     match event {
         Event::Read(width, address) => reads::read(
@@ -49,7 +50,7 @@ pub fn act(
             address,
             value,
         ),
-        Event::Line(line, to) => lines::line(chip, pending, level, core, line, to),
+        Event::Line(line, to) => lines::line(chip, pending, level, lost, core, line, to),
         Event::Nmi => lines::nmi(pending, core),
         Event::Tick => lines::ticks::tick(pending, core),
         Event::Fault(bit, address) => {
@@ -62,5 +63,6 @@ pub fn act(
         Event::Access(kind, width, address) => {
             access::access(core, limit, script::access_number(kind), width, address)
         }
+        Event::Lost(line) => pulses::lost(chip, lost, core, line),
     }
 }

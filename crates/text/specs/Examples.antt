@@ -15,7 +15,7 @@ unfolding textOf admittedText scriptText linesOf endText scriptOf scriptFrom
 empty = refl
 
 -- `script 14 at 0`
-no-kind : textOf chip55 (12 ∷ []) ≡ scriptWord ++ (49 ∷ 52 ∷ []) ++ atWord ++ (48 ∷ newline ∷ [])
+no-kind : textOf chip55 (14 ∷ []) ≡ scriptWord ++ (49 ∷ 52 ∷ []) ++ atWord ++ (48 ∷ newline ∷ [])
 unfolding textOf admittedText scriptText linesOf endText scriptOf scriptFrom followed readEvent withKind withArguments eventOf arity numbersAt numberAt groupsAt brokenText digits digitsUpTo
 no-kind = refl
 

@@ -1,5 +1,5 @@
 -- The chip's places of each array are lent and taken back.
-use mathlib.Core.Path.{_≡_, refl, sym, subst}
+use mathlib.Core.Path.{refl, sym, subst}
 use Rattle.guarded.specs.FewLines.{FewLines}
 use Rattle.any_chip.specs.ViewLaws.{Sized}
 use Rattle.any_chip.proofs.View.{few-lines, Within, within, front}
@@ -10,19 +10,19 @@ use Rattle.any_run.proofs.run_some.Tie as tie
 
 -- earlier places of the function, from later ones
 abbrev reached : tie.After-chip → tie.After-reach
-reached c = c .before .before .before .before .before .before .before .before
+reached c = c .before .before .before .before .before .before .before .before .before
 
 abbrev begun : tie.After-chip → tie.Start
 begun c = reached c .before .before .before .before .before
 
 abbrev named : tie.After-run-some → tie.After-chip
-named c = c .before .before .before .before .before .before .before .before
+named c = c .before .before .before .before .before .before .before .before .before
 
 abbrev ran : tie.After-left → tie.After-run-some
-ran c = c .before .before .before .before .before .before .before .before .before
+ran c = c .before .before .before .before .before .before .before .before .before .before
 
 sized : (c : tie.Start) → Sized (c .args .progress .state)
-sized c = record { pending = search needs; active = search needs; enabled = search needs; level = search needs; priority = search needs; nest = search needs }
+sized c = record { pending = search needs; active = search needs; enabled = search needs; level = search needs; priority = search needs; nest = search needs; lost = search needs }
 
 lent : (c : tie.After-chip) → Within (reached c .reach .result) (begun c .args .progress .state)
 lent c = within (begun c .args .progress .state) (sized (begun c)) (reached c .reach .result) (reached c .reach .ensures)
@@ -69,8 +69,14 @@ array-borrow-prefix-nest c = lent (c .before .before .before .before .before) .n
 slice-aggregate-run-some-6 : tie.Need-slice-aggregate-run-some-6
 slice-aggregate-run-some-6 c = front _ _ (lent (c .before .before .before .before .before .before) .nest)
 
+array-borrow-prefix-lost : tie.Need-array-borrow-prefix-lost
+array-borrow-prefix-lost c = lent (c .before .before .before .before .before .before) .lost
+
+slice-aggregate-run-some-7 : tie.Need-slice-aggregate-run-some-7
+slice-aggregate-run-some-7 c = front _ _ (lent (c .before .before .before .before .before .before .before) .lost)
+
 run-some-requires : tie.Need-run-some-requires
-run-some-requires c κs = let k = c .before .before .before .before .before .before .before in subst FewLines (sym (k .chip .ensures)) (few-lines (begun k .args .progress .state .setup))
+run-some-requires c κs = let k = c .before .before .before .before .before .before .before .before in subst FewLines (sym (k .chip .ensures)) (few-lines (begun k .args .progress .state .setup))
 
 same-length : tie.Need-same-length
 same-length c = search needs
@@ -99,6 +105,8 @@ run-some-spec =
     slice-aggregate-run-some-5
     array-borrow-prefix-nest
     slice-aggregate-run-some-6
+    array-borrow-prefix-lost
+    slice-aggregate-run-some-7
     run-some-requires
     same-length
     returns)

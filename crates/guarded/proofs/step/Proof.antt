@@ -16,21 +16,21 @@ use Rattle.guarded.proofs.step.Statement.{statement}
 use Rattle.guarded.proofs.step.Tie as tie
 
 -- where the execution priority is known, from where the event acts; where it has acted
-abbrev ready : tie.After-act-arg6 → tie.After-execution
-ready c = c .before .before .before .before .before .before
+abbrev ready : tie.After-act-arg7 → tie.After-execution
+ready c = c .before .before .before .before .before .before .before
 
-abbrev acted : tie.After-slice-known12 → tie.After-act
-acted c = c .before .before .before .before .before .before .before .before .before .before .before .before
+abbrev acted : tie.After-slice-known14 → tie.After-act
+acted c = c .before .before .before .before .before .before .before .before .before .before .before .before .before .before
 
 -- where the chip is known to fit, from where the state is tested; the entry of the call, and its model
 abbrev fitted : tie.After-is-sound → tie.Else1
-fitted c = c .before .before .before .before .before .before .before
+fitted c = c .before .before .before .before .before .before .before .before
 
 abbrev begun : tie.Else1 → tie.Start
-begun c = c .before .before .before .before .before .before .before .before
+begun c = c .before .before .before .before .before .before .before .before .before
 
 abbrev model : tie.Start → Model
-model s = modelOf (s .args .pending .now) (s .args .active .now) (s .args .enabled .now) (s .args .level .now) (s .args .priority .now) (s .args .nest .now) (s .args .core)
+model s = modelOf (s .args .pending .now) (s .args .active .now) (s .args .enabled .now) (s .args .level .now) (s .args .priority .now) (s .args .nest .now) (s .args .lost .now) (s .args .core)
 
 fit : (c : tie.Else1) → fits (begun c .args .chip) ≡ true
 fit c = sym (c .before .fits2 .ensures) ∙ not-false _ (c .if1 .left)
@@ -78,6 +78,9 @@ same-length-5 c = search needs
 same-length-6 : tie.Need-same-length-6
 same-length-6 c = search needs
 
+same-length-7 : tie.Need-same-length-7
+same-length-7 c = search needs
+
 returns-2 : tie.Need-returns-2
 returns-2 c =
     let s = c .before .before in
@@ -91,9 +94,6 @@ act-requires c κs =
     let x = ready c in
     let e = x .before .before .before in
     record { lines = start e .pre .lines; sound = sound e; priority = toZ-ofZ (search needs) ∙ x .execution .ensures ∙ execution-nest (sound e) }
-
-same-length-7 : tie.Need-same-length-7
-same-length-7 c = search needs
 
 same-length-8 : tie.Need-same-length-8
 same-length-8 c = search needs
@@ -109,6 +109,12 @@ same-length-11 c = search needs
 
 same-length-12 : tie.Need-same-length-12
 same-length-12 c = search needs
+
+same-length-13 : tie.Need-same-length-13
+same-length-13 c = search needs
+
+same-length-14 : tie.Need-same-length-14
+same-length-14 c = search needs
 
 returns-3 : tie.Need-returns-3
 returns-3 c =
@@ -130,13 +136,15 @@ step-spec =
     same-length-4
     same-length-5
     same-length-6
+    same-length-7
     returns-2
     execution-requires
     act-requires
-    same-length-7
     same-length-8
     same-length-9
     same-length-10
     same-length-11
     same-length-12
+    same-length-13
+    same-length-14
     returns-3)

@@ -23,18 +23,18 @@ use Rattle.running.proofs.run_events.Statement.{statement}
 use Rattle.running.proofs.run_events.Tie as tie
 
 abbrev Inv-loop : tie.InvT-loop
-Inv-loop chip script pending₀ active₀ enabled₀ level₀ priority₀ nest₀ out₀ core₀ limit₀ at₀ events₀ wrote₀ pending active enabled level priority nest out core limit at events wrote =
-    Going chip script (modelOf pending₀ active₀ enabled₀ level₀ priority₀ nest₀ core₀) at₀ events₀ out₀ (modelOf pending active enabled level priority nest core) at events wrote out
-    × (toZ w32 limit ≡ execution (modelOf pending active enabled level priority nest core))
+Inv-loop chip script pending₀ active₀ enabled₀ level₀ priority₀ nest₀ lost₀ out₀ core₀ limit₀ at₀ events₀ wrote₀ pending active enabled level priority nest lost out core limit at events wrote =
+    Going chip script (modelOf pending₀ active₀ enabled₀ level₀ priority₀ nest₀ lost₀ core₀) at₀ events₀ out₀ (modelOf pending active enabled level priority nest lost core) at events wrote out
+    × (toZ w32 limit ≡ execution (modelOf pending active enabled level priority nest lost core))
 
 abbrev μ-loop : tie.MeasureT-loop
-μ-loop chip script pending₀ active₀ enabled₀ level₀ priority₀ nest₀ out₀ core₀ limit₀ at₀ events₀ wrote₀ pending active enabled level priority nest out core limit at events wrote = length script - at
+μ-loop chip script pending₀ active₀ enabled₀ level₀ priority₀ nest₀ lost₀ out₀ core₀ limit₀ at₀ events₀ wrote₀ pending active enabled level priority nest lost out core limit at events wrote = length script - at
 
 -- ---- earlier places of the function, from later ones
 
 -- the script is known, the entry of the call
 abbrev lent : tie.After-execution-arg2 Inv-loop μ-loop → tie.After-shared-slice-known Inv-loop μ-loop
-lent c = c .before .before .before .before .before .before .before .before .before .before
+lent c = c .before .before .before .before .before .before .before .before .before .before .before
 
 abbrev begun : tie.At-loop Inv-loop μ-loop → tie.Start Inv-loop μ-loop
 begun c = lent (c .before .before) .before
@@ -46,16 +46,16 @@ head c = c .before .before .before .before
 abbrev closing : tie.After-close-arg Inv-loop μ-loop → tie.In-loop Inv-loop μ-loop
 closing c = c .before .before .before .before .before .before
 
-abbrev read : tie.After-act-arg6 Inv-loop μ-loop → tie.After-event Inv-loop μ-loop
-read c = c .before .before .before .before .before .before .before
+abbrev read : tie.After-act-arg7 Inv-loop μ-loop → tie.After-event Inv-loop μ-loop
+read c = c .before .before .before .before .before .before .before .before
 
 abbrev acted : tie.After-left Inv-loop μ-loop → tie.After-act Inv-loop μ-loop
-acted c = c .before .before .before .before .before .before .before .before .before .before .before .before .before
+acted c = c .before .before .before .before .before .before .before .before .before .before .before .before .before .before .before
 
 abbrev answering : tie.After-struct-told Inv-loop μ-loop → tie.After-left Inv-loop μ-loop
 answering c = c .before .before .before .before .before .before .before
 
-first-sound : (c : tie.Start Inv-loop μ-loop) → Sound (c .args .chip) (modelOf (c .args .pending .now) (c .args .active .now) (c .args .enabled .now) (c .args .level .now) (c .args .priority .now) (c .args .nest .now) (c .args .course .core))
+first-sound : (c : tie.Start Inv-loop μ-loop) → Sound (c .args .chip) (modelOf (c .args .pending .now) (c .args .active .now) (c .args .enabled .now) (c .args .level .now) (c .args .priority .now) (c .args .nest .now) (c .args .lost .now) (c .args .course .core))
 first-sound c = usable-of _ _ _ (c .pre .1 .tested) .sound
 
 small : (c : tie.At-loop Inv-loop μ-loop) → Bytes (begun c .args .script .now)
@@ -69,7 +69,7 @@ one c = one-of _ (begun (head c) .pre .1 .short) (small (head c)) _ _ _ (sym (c 
 
 -- the answer of an event, and the model that it leaves
 abbrev after : tie.After-act Inv-loop μ-loop → Answer
-after c = answer (c .act .result) (modelOf (c .act .last .1 .0) (c .act .last .1 .1 .0) (c .act .last .1 .1 .1 .0) (c .act .last .1 .1 .1 .1 .0) (c .act .last .1 .1 .1 .1 .1 .0) (c .act .last .1 .1 .1 .1 .1 .1 .0) (c .act .result .core))
+after c = answer (c .act .result) (modelOf (c .act .last .1 .0) (c .act .last .1 .1 .0) (c .act .last .1 .1 .1 .0) (c .act .last .1 .1 .1 .1 .0) (c .act .last .1 .1 .1 .1 .1 .0) (c .act .last .1 .1 .1 .1 .1 .1 .0) (c .act .last .1 .1 .1 .1 .1 .1 .1 .0) (c .act .result .core))
 
 after-sound : (c : tie.After-act Inv-loop μ-loop) → Sound (begun (head (read (c .before))) .args .chip) (after c .next)
 after-sound c = subst (λ (a : Answer). Sound (begun (head (read (c .before))) .args .chip) (a .next)) (sym (c .act .ensures)) (act-sound (head (read (c .before)) .loop .inv .0 .sound) (read (c .before) .event .given .0 .0))
@@ -124,7 +124,10 @@ same-length-6 : tie.Need-same-length-6 Inv-loop μ-loop
 same-length-6 c = let l = closing (c .before .before .before) .before in omega (arith, l .loop .inv .0 .sound .places .size, first-sound (begun l) .places .size)
 
 same-length-7 : tie.Need-same-length-7 Inv-loop μ-loop
-same-length-7 c = omega (arith, c .before .before .close .ensures .puts, closing (c .before .before .before) .before .loop .inv .0 .sized)
+same-length-7 c = let l = closing (c .before .before .before) .before in omega (arith, l .loop .inv .0 .sound .lost .size, first-sound (begun l) .lost .size)
+
+same-length-8 : tie.Need-same-length-8 Inv-loop μ-loop
+same-length-8 c = omega (arith, c .before .before .close .ensures .puts, closing (c .before .before .before) .before .loop .inv .0 .sized)
 
 returns : tie.Need-returns Inv-loop μ-loop
 returns c =
@@ -170,26 +173,29 @@ loop-again c =
 going-requires-2 : tie.Need-going-requires-2 Inv-loop μ-loop
 going-requires-2 c κs = search needs
 
-same-length-8 : tie.Need-same-length-8 Inv-loop μ-loop
-same-length-8 c = let l = c .before .before in omega (arith, l .loop .inv .0 .sound .pending .size, first-sound (begun l) .pending .size)
-
 same-length-9 : tie.Need-same-length-9 Inv-loop μ-loop
-same-length-9 c = let l = c .before .before in omega (arith, l .loop .inv .0 .sound .active .size, first-sound (begun l) .active .size)
+same-length-9 c = let l = c .before .before in omega (arith, l .loop .inv .0 .sound .pending .size, first-sound (begun l) .pending .size)
 
 same-length-10 : tie.Need-same-length-10 Inv-loop μ-loop
-same-length-10 c = let l = c .before .before in omega (arith, l .loop .inv .0 .sound .enabled .size, first-sound (begun l) .enabled .size)
+same-length-10 c = let l = c .before .before in omega (arith, l .loop .inv .0 .sound .active .size, first-sound (begun l) .active .size)
 
 same-length-11 : tie.Need-same-length-11 Inv-loop μ-loop
-same-length-11 c = let l = c .before .before in omega (arith, l .loop .inv .0 .sound .level .size, first-sound (begun l) .level .size)
+same-length-11 c = let l = c .before .before in omega (arith, l .loop .inv .0 .sound .enabled .size, first-sound (begun l) .enabled .size)
 
 same-length-12 : tie.Need-same-length-12 Inv-loop μ-loop
-same-length-12 c = let l = c .before .before in omega (arith, l .loop .inv .0 .sound .priority .size, first-sound (begun l) .priority .size)
+same-length-12 c = let l = c .before .before in omega (arith, l .loop .inv .0 .sound .level .size, first-sound (begun l) .level .size)
 
 same-length-13 : tie.Need-same-length-13 Inv-loop μ-loop
-same-length-13 c = let l = c .before .before in omega (arith, l .loop .inv .0 .sound .places .size, first-sound (begun l) .places .size)
+same-length-13 c = let l = c .before .before in omega (arith, l .loop .inv .0 .sound .priority .size, first-sound (begun l) .priority .size)
 
 same-length-14 : tie.Need-same-length-14 Inv-loop μ-loop
-same-length-14 c = omega (arith, c .before .before .loop .inv .0 .sized)
+same-length-14 c = let l = c .before .before in omega (arith, l .loop .inv .0 .sound .places .size, first-sound (begun l) .places .size)
+
+same-length-15 : tie.Need-same-length-15 Inv-loop μ-loop
+same-length-15 c = let l = c .before .before in omega (arith, l .loop .inv .0 .sound .lost .size, first-sound (begun l) .lost .size)
+
+same-length-16 : tie.Need-same-length-16 Inv-loop μ-loop
+same-length-16 c = omega (arith, c .before .before .loop .inv .0 .sized)
 
 returns-2 : tie.Need-returns-2 Inv-loop μ-loop
 returns-2 c =
@@ -217,6 +223,7 @@ run-events-spec =
     same-length-5
     same-length-6
     same-length-7
+    same-length-8
     returns
     enum-known-event
     act-requires
@@ -225,11 +232,12 @@ run-events-spec =
     loop-less
     loop-again
     going-requires-2
-    same-length-8
     same-length-9
     same-length-10
     same-length-11
     same-length-12
     same-length-13
     same-length-14
+    same-length-15
+    same-length-16
     returns-2)

@@ -13,16 +13,16 @@ use Rattle.running.proofs.run_some.Tie as tie
 
 -- earlier places of the function, from later ones: the start, where the chip is known to fit, where the script is known to be short, where the state is known to be usable, where the events have run
 abbrev begun : tie.Else2 → tie.Start
-begun c = c .before .before .before .before .before .before .before .before .before .before .before
+begun c = c .before .before .before .before .before .before .before .before .before .before .before .before
 
-abbrev short : tie.After-is-usable-arg6 → tie.Else3
-short c = c .before .before .before .before .before .before
+abbrev short : tie.After-is-usable-arg7 → tie.Else3
+short c = c .before .before .before .before .before .before .before
 
-abbrev usable : tie.After-run-events-arg7 → tie.Then4
-usable c = c .before .before .before .before .before .before .before
+abbrev usable : tie.After-run-events-arg8 → tie.Then4
+usable c = c .before .before .before .before .before .before .before .before
 
-abbrev ran : tie.After-slice-known16 → tie.After-run-events
-ran c = c .before .before .before .before .before .before .before .before .before .before .before .before .before .before
+abbrev ran : tie.After-slice-known18 → tie.After-run-events
+ran c = c .before .before .before .before .before .before .before .before .before .before .before .before .before .before .before .before
 
 unmoved-requires : tie.Need-unmoved-requires
 unmoved-requires c κs = search needs
@@ -92,14 +92,14 @@ same-length-8 c = search needs
 same-length-9 : tie.Need-same-length-9
 same-length-9 c = search needs
 
+same-length-10 : tie.Need-same-length-10
+same-length-10 c = search needs
+
 returns-4 : tie.Need-returns-4
 returns-4 c = ran c .run-events .ensures
 
 refused-requires : tie.Need-refused-requires
 refused-requires c κs = search needs
-
-same-length-10 : tie.Need-same-length-10
-same-length-10 c = search needs
 
 same-length-11 : tie.Need-same-length-11
 same-length-11 c = search needs
@@ -115,6 +115,12 @@ same-length-14 c = search needs
 
 same-length-15 : tie.Need-same-length-15
 same-length-15 c = search needs
+
+same-length-16 : tie.Need-same-length-16
+same-length-16 c = search needs
+
+same-length-17 : tie.Need-same-length-17
+same-length-17 c = search needs
 
 returns-5 : tie.Need-returns-5
 returns-5 c =
@@ -145,12 +151,14 @@ run-some-spec =
     same-length-7
     same-length-8
     same-length-9
+    same-length-10
     returns-4
     refused-requires
-    same-length-10
     same-length-11
     same-length-12
     same-length-13
     same-length-14
     same-length-15
+    same-length-16
+    same-length-17
     returns-5)

@@ -43,7 +43,14 @@ exception-count-requires c κs = search needs
 
 returns-6 : tie.Need-returns-6
 unfolding isSized
-returns-6 c = λ core. let n = c .before .before .before .before .before .before .flag-count .ensures in rw (meets n (c .before .before .before .before .before .if1 .left), meets n (c .before .before .before .before .if2 .left), meets n (c .before .before .before .if3 .left), meets n (c .before .before .if4 .left), meets n (c .before .if5 .left), sym (c .exception-count .ensures))
+returns-6 c = λ core. let n = c .before .before .before .before .before .before .before .flag-count .ensures in simp (meets n (c .before .before .before .before .before .before .if1 .left), meets n (c .before .before .before .before .before .if2 .left), meets n (c .before .before .before .before .if3 .left), meets n (c .before .before .before .if4 .left), meets n (c .before .before .if5 .left), differs (c .before .exception-count .ensures) (c .if6 .taken))
+
+cast-result : tie.Need-cast-result
+cast-result c = search needs
+
+returns-7 : tie.Need-returns-7
+unfolding isSized
+returns-7 c = λ core. let n = c .before .before .before .before .before .before .before .before .flag-count .ensures in rw (meets n (c .before .before .before .before .before .before .before .if1 .left), meets n (c .before .before .before .before .before .before .if2 .left), meets n (c .before .before .before .before .before .if3 .left), meets n (c .before .before .before .before .if4 .left), meets n (c .before .before .before .if5 .left), meets (c .before .before .exception-count .ensures) (c .before .if6 .left))
 
 pub is-sized-spec : {M : Type 1} → statement M
 is-sized-spec =
@@ -56,4 +63,6 @@ is-sized-spec =
     returns-4
     returns-5
     exception-count-requires
-    returns-6)
+    returns-6
+    cast-result
+    returns-7)

@@ -14,7 +14,7 @@ use Rattle.any_chip.proofs.State.is_sound.Tie as tie
 
 -- earlier places of the function, from later ones
 abbrev reached : tie.After-core → tie.After-reach
-reached c = c .before .before .before .before .before .before .before
+reached c = c .before .before .before .before .before .before .before .before
 
 abbrev named : tie.After-core → tie.After-chip
 named c = reached c .before .before .before
@@ -23,7 +23,7 @@ abbrev begun : tie.After-core → tie.Start
 begun c = named c .before .before
 
 sized : (c : tie.Start) → Sized (c .args .self)
-sized c = record { pending = search needs; active = search needs; enabled = search needs; level = search needs; priority = search needs; nest = search needs }
+sized c = record { pending = search needs; active = search needs; enabled = search needs; level = search needs; priority = search needs; nest = search needs; lost = search needs }
 
 lent : (c : tie.After-core) → Within (reached c .reach .result) (begun c .args .self)
 lent c = within (begun c .args .self) (sized (begun c)) (reached c .reach .result) (reached c .reach .ensures)
@@ -80,12 +80,18 @@ array-share-prefix-nest c = lent (c .before .before .before .before .before) .ne
 slice-aggregate-is-sound-6 : tie.Need-slice-aggregate-is-sound-6
 slice-aggregate-is-sound-6 c = front _ _ (lent (c .before .before .before .before .before .before) .nest)
 
+array-share-prefix-lost : tie.Need-array-share-prefix-lost
+array-share-prefix-lost c = lent (c .before .before .before .before .before .before) .lost
+
+slice-aggregate-is-sound-7 : tie.Need-slice-aggregate-is-sound-7
+slice-aggregate-is-sound-7 c = front _ _ (lent (c .before .before .before .before .before .before .before) .lost)
+
 is-sound-requires : tie.Need-is-sound-requires
 is-sound-requires c κs = search needs
 
 returns-2 : tie.Need-returns-2
 returns-2 c =
-    let k = c .before .before .before .before .before .before .before in
+    let k = c .before .before .before .before .before .before .before .before in
     let s = begun k .args .self in
     let e = reached k .before in
     c .is-sound .ensures
@@ -112,5 +118,7 @@ is-sound-spec =
     slice-aggregate-is-sound-5
     array-share-prefix-nest
     slice-aggregate-is-sound-6
+    array-share-prefix-lost
+    slice-aggregate-is-sound-7
     is-sound-requires
     returns-2)

@@ -10,8 +10,8 @@ use Rattle.any_chip.proofs.State.step.Statement.{statement}
 use Rattle.any_chip.proofs.State.step.Tie as tie
 
 -- earlier places of the function, from later ones
-abbrev lending : tie.After-nest2 → tie.After-chip
-lending c = c .before .before .before .before .before .before .before .before .before .before .before .before .before
+abbrev lending : tie.After-lost2 → tie.After-chip
+lending c = c .before .before .before .before .before .before .before .before .before .before .before .before .before .before .before
 
 abbrev named : tie.After-reach-of → tie.After-chip
 named c = lending (c .before)
@@ -20,13 +20,13 @@ abbrev begun : tie.After-reach-of → tie.Start
 begun c = named c .before .before
 
 abbrev measured : tie.After-step → tie.After-reach-of
-measured c = c .before .before .before .before .before .before .before
+measured c = c .before .before .before .before .before .before .before .before
 
 abbrev stepped : tie.After-left → tie.After-step
-stepped c = c .before .before .before .before .before .before .before
+stepped c = c .before .before .before .before .before .before .before .before
 
 sized : (c : tie.Start) → Sized (c .args .self)
-sized c = record { pending = search needs; active = search needs; enabled = search needs; level = search needs; priority = search needs; nest = search needs }
+sized c = record { pending = search needs; active = search needs; enabled = search needs; level = search needs; priority = search needs; nest = search needs; lost = search needs }
 
 reaches : (c : tie.After-reach-of) → c .reach-of .result ≡ reachIn (begun c .args .self)
 reaches c = c .reach-of .ensures ∙ reached-in (begun c .args .self) (named c .chip .ensures)
@@ -78,8 +78,14 @@ array-borrow-prefix-nest c = lent (c .before .before .before .before .before) .n
 slice-aggregate-step-6 : tie.Need-slice-aggregate-step-6
 slice-aggregate-step-6 c = front _ _ (lent (c .before .before .before .before .before .before) .nest)
 
+array-borrow-prefix-lost : tie.Need-array-borrow-prefix-lost
+array-borrow-prefix-lost c = lent (c .before .before .before .before .before .before) .lost
+
+slice-aggregate-step-7 : tie.Need-slice-aggregate-step-7
+slice-aggregate-step-7 c = front _ _ (lent (c .before .before .before .before .before .before .before) .lost)
+
 step-requires : tie.Need-step-requires
-step-requires c κs = let k = c .before .before .before .before .before .before in subst FewLines (sym (named k .chip .ensures)) (few-lines (begun k .args .self .setup))
+step-requires c κs = let k = c .before .before .before .before .before .before .before in subst FewLines (sym (named k .chip .ensures)) (few-lines (begun k .args .self .setup))
 
 returns : tie.Need-returns
 returns c =
@@ -105,5 +111,7 @@ step-spec =
     slice-aggregate-step-5
     array-borrow-prefix-nest
     slice-aggregate-step-6
+    array-borrow-prefix-lost
+    slice-aggregate-step-7
     step-requires
     returns)

@@ -17,7 +17,7 @@ abbrev begun : tie.After-core → tie.Start
 begun c = reached c .before
 
 sized : (c : tie.Start) → Sized (c .args .self)
-sized c = record { pending = search needs; active = search needs; enabled = search needs; level = search needs; priority = search needs; nest = search needs }
+sized c = record { pending = search needs; active = search needs; enabled = search needs; level = search needs; priority = search needs; nest = search needs; lost = search needs }
 
 lent : (c : tie.After-core) → Within (reached c .reach .result) (begun c .args .self)
 lent c = within (begun c .args .self) (sized (begun c)) (reached c .reach .result) (reached c .reach .ensures)

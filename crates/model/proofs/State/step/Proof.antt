@@ -7,7 +7,7 @@ use Rattle.model.proofs.State.step.Tie as tie
 
 -- an earlier place of the function, from a later one
 abbrev stepped : tie.After-left → tie.After-step
-stepped c = c .before .before .before .before .before .before .before
+stepped c = c .before .before .before .before .before .before .before .before
 
 slice-aggregate-step : tie.Need-slice-aggregate-step
 slice-aggregate-step c = search needs
@@ -27,6 +27,9 @@ slice-aggregate-step-5 c = search needs
 slice-aggregate-step-6 : tie.Need-slice-aggregate-step-6
 slice-aggregate-step-6 c = search needs
 
+slice-aggregate-step-7 : tie.Need-slice-aggregate-step-7
+slice-aggregate-step-7 c = search needs
+
 step-requires : tie.Need-step-requires
 step-requires c κs = search needs
 
@@ -43,5 +46,6 @@ step-spec =
     slice-aggregate-step-4
     slice-aggregate-step-5
     slice-aggregate-step-6
+    slice-aggregate-step-7
     step-requires
     returns)

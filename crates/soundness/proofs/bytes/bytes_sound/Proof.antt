@@ -1,7 +1,7 @@
 -- From 16 on each number is a line and has a byte: after n bytes the answer is that of these n.
 use Prim.Native.Nat.{ℕ, _-_, _≤_, _<_}
-use mathlib.Core.Path.{_≡_, refl, sym, ap, _∙_}
-use mathlib.Core.Bool.{Bool, true, false, _&&_, _||_}
+use mathlib.Core.Path.{_≡_, sym, ap, _∙_}
+use mathlib.Core.Bool.{Bool, true, _&&_, _||_}
 use mathlib.Core.List.{List}
 use native.Mathlib.Nat.{le-antisymm}
 use native.Mathlib.Numerals.{add-one}
@@ -9,7 +9,7 @@ use native.Mathlib.Omega.{arith}
 use lib.ListN.{length, getD}
 use lib.Dec.{leb, eqb, le→leb}
 use borrow.Author.Needs.{needs}
-use Rattle.bools.specs.Tests.{true-is, join}
+use Rattle.bools.specs.Tests.{true-is, join, and-true}
 use Rattle.bools.specs.Every.{every}
 use Rattle.grouping.specs.Grouping.{keptByte}
 use Rattle.rules.specs.declared.Chip.{Chip}
@@ -22,10 +22,6 @@ use Rattle.soundness.proofs.bytes.bytes_sound.Tie as tie
 
 abbrev kept : Chip → List ℕ → ℕ → Bool
 kept c bytes n = eqb (keptByte (c .bits) (getD bytes n 0)) (getD bytes n 0)
-
-and-true : (b : Bool) → (b && true) ≡ b
-and-true true = refl
-and-true false = refl
 
 line-byte : (c : Chip) (bytes : List ℕ) (n : ℕ) → 16 ≤ n → n < flagCount c → byteSound c bytes n ≡ kept c bytes n
 unfolding byteSound

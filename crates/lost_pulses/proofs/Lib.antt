@@ -1,0 +1,3 @@
+mod Frame
+pub mod Cases
+pub mod LostPulses
