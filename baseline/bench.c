@@ -243,13 +243,26 @@ static Answer line_event(Model *m, uint32_t line, uint32_t level) {
 
 static Answer lost_event(const Model *m, uint32_t line) { return line >= (uint32_t)m->lines ? refuse(6) : done(m->lost[16 + line]); }
 
-static Answer tick_event(Model *m) {
-    if (!(m->st_control & 1)) return done(0);
-    if (m->st_current == 0) { m->st_current = m->st_reload; return done(0); }
-    if (--m->st_current) return done(0);
+static Answer fallen(Model *m) {
     m->st_count = 1;
     if (m->st_control & 2) m->pending[15] = 1;
     return done(1);
+}
+
+static Answer tick_event(Model *m) {
+    if (!(m->st_control & 1)) return done(0);
+    if (m->st_current == 0) { m->st_current = m->st_reload; return done(0); }
+    return --m->st_current ? done(0) : fallen(m);
+}
+
+/* So many ticks at once. A current value of 0 is back at 0 after each reload + 1 ticks; it falls to 0 only if it was another in between. */
+static Answer skip_event(Model *m, uint32_t count) {
+    if (!(m->st_control & 1)) return done(0);
+    if (count < m->st_current) { m->st_current -= count; return done(0); }
+    uint32_t period = m->st_reload + 1, from_0 = count - m->st_current;
+    int fell = m->st_current > 0 || (m->st_reload > 0 && from_0 >= period);
+    m->st_current = from_0 % period ? period - from_0 % period : 0;
+    return fell ? fallen(m) : done(0);
 }
 
 static Answer raise(Model *m, int n) {
@@ -359,7 +372,7 @@ static int number(const uint8_t *s, size_t n, size_t *at, uint32_t *out) {
     return 0;
 }
 
-static const int argument_count[13] = {0, 2, 3, 2, 0, 0, 2, 0, 2, 0, 1, 3, 1};
+static const int argument_count[14] = {0, 2, 3, 2, 0, 0, 2, 0, 2, 0, 1, 3, 1, 1};
 
 static Answer step(Model *m, uint32_t kind, const uint32_t *a) {
     switch (kind) {
@@ -374,7 +387,8 @@ static Answer step(Model *m, uint32_t kind, const uint32_t *a) {
     case 9: return entry_event(m);
     case 10: return return_event(m, a[0]);
     case 11: return access_event(m, a[0], a[1], a[2]);
-    default: return lost_event(m, a[0]);
+    case 12: return lost_event(m, a[0]);
+    default: return skip_event(m, a[0]);
     }
 }
 
@@ -456,7 +470,7 @@ static uint32_t run(Setup setup, const uint8_t *s, size_t n, int print, uint64_t
         uint32_t kind, a[3] = {0, 0, 0};
         *bad = at;
         if (!number(s, n, &at, &kind)) return 13;
-        if (kind < 1 || kind > 12) return 14;
+        if (kind < 1 || kind > 13) return 14;
         for (int i = 0; i < argument_count[kind]; i++) if (!number(s, n, &at, &a[i])) return 13;
         Answer r = print || sound(&m) ? step(&m, kind, a) : refuse(16);
         *sum += r.refusal + r.value;

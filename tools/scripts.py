@@ -1,12 +1,14 @@
 """Random scripts of the events of documents 01 and 02, the same for the same seed: mostly sensible arguments, some out of range.
 
 A script is made for a chip of 55 or 240 lines and may be run on either, whatever it keeps of a priority byte. Those for 55 lines that keep
-no proviso, have no deep nest and are not about the memory guard, priorities near each other or lost pulses stay what they are, so that
-measurements can be compared. Counts of lost pulses (kind 12) are asked for only in the scripts about these.
+no proviso, have no deep nest and are not about the memory guard, priorities near each other, lost pulses or idle time stay what they are,
+so that measurements can be compared. Counts of lost pulses (kind 12) are asked for only in the scripts about these, and time is skipped
+(kind 13) only in those about idle time.
 """
 import random
 
 SWTRIG = 0xE000EF00
+STCTRL, STRELOAD, STCURRENT, INTCTRL = 0xE000E010, 0xE000E014, 0xE000E018, 0xE000ED04
 LINKS = [0xFFFFFFF1, 0xFFFFFFF9, 0xFFFFFFFD, 0xFFFFFFE9]
 FAULTS = [0, 1, 8, 9, 16, 17, 18, 19, 24, 25, 2, 31, 40]
 BANKS = (0xE000E100, 0xE000E180, 0xE000E200, 0xE000E280, 0xE000E300)
@@ -238,6 +240,73 @@ def pulsed(r, lines):
         yield from ([12, line] for line in six)
 
 
+def reload_value(r):
+    return r.choice([0, 1, 2, 5, r.randrange(12), r.randrange(300), 0xFFFFFF, r.getrandbits(24), r.getrandbits(32)])
+
+
+def timer(r, current, reload):
+    """Sets the timer. A tick loads the current value, which may be above the reload value that follows."""
+    loaded = [[2, 4, STRELOAD, current], [2, 4, STCTRL, 1], r.choice([[5], [13, 1]])] if current else []
+    control = [2, 4, STCTRL, r.choice([1, 3, 3, 3, 7, r.randrange(8)])]
+    return [[2, 4, STCURRENT, word(r)], *loaded, [2, 4, STRELOAD, reload], control]
+
+
+def to_fall(r, current, reload):
+    """How many ticks from these values to a fall, the first or a later one, or to one tick beside it."""
+    period = reload % 2**24 + 1
+    periods = r.choice([0, 0, 1, 1, 2, 3, r.randrange(2**32 // period)])
+    return min(max(current % 2**24 + periods * period + r.choice([-1, 0, 0, 1]), 0), 2**32 - 1)
+
+
+def in_parts(r, count):
+    """So many ticks in one to three skips, of which some may be of none."""
+    cuts = sorted(r.randrange(count + 1) for _ in range(r.randrange(3)))
+    return [[13, end - start] for start, end in zip([0, *cuts], [*cuts, count])]
+
+
+def any_skip(r, reload):
+    return [13, r.choice([0, 1, 2, 3, r.randrange(20), to_fall(r, 0, reload), 2**24 - 1, 2**24, 2**32 - 1, r.getrandbits(32)])]
+
+
+def idling(r, reload, line):
+    """An event or more about a timer that was set: skips, ticks, reads, another setting, SysTick held back, entered and returned from."""
+    what, byte = r.randrange(24), r.randrange(256)
+    if what < 6:
+        return [any_skip(r, reload)]
+    if what < 8:
+        return [[5]] * r.choice([1, 1, 2, 7])
+    if what < 12:
+        return [[1, 4, r.choice([STCTRL, STCTRL, STRELOAD, STCURRENT, STCURRENT, INTCTRL, INTCTRL])]]
+    if what < 14:
+        return [[2, 4, *r.choice([[STCTRL, r.randrange(8)], [STRELOAD, reload_value(r)], [STCURRENT, word(r)]])]]
+    if what < 15:
+        return [[2, 4, INTCTRL, r.choice([1 << 25, 1 << 25, 1 << 26, 3 << 25, 1 << 28])]]
+    if what < 17:
+        return [r.choice([[2, 1, 0xE000ED23, byte], [2, 4, 0xE000ED20, byte << 24], [8, 0, byte % 2], [8, 2, byte], [8, 2, 0]])]
+    if what < 18:
+        return [r.choice([[3, line, 1], [3, line, 0], [4], [7]])]
+    return [[9]] if what < 21 else [[10, r.choice([0xFFFFFFF1, 0xFFFFFFF9, 0xFFFFFFFD])]]
+
+
+def idle(r, lines):
+    """Timers of many values, over and over: skips up to a fall or near it, then whatever comes; in handlers too, and every second time also
+    unprivileged."""
+    line = r.randrange(lines)
+    yield [2, 4, 0xE000E100 + line // 32 * 4, 1 << line % 32]
+    while True:
+        current, reload = r.choice([0, reload_value(r)]), reload_value(r)
+        yield from timer(r, current, reload)
+        yield from in_parts(r, to_fall(r, current, reload))
+        yield from ([1, 4, register] for register in r.sample([STCTRL, STCURRENT, INTCTRL], r.randrange(4)))
+        for _ in range(r.randrange(20)):
+            yield from idling(r, reload, line)
+        if r.randrange(2):
+            yield from ([8, 4, 1], any_skip(r, reload), *idling(r, reload, line), [7], [9], [8, 4, 0])
+        yield from ([8, 0, 0], [8, 2, 0], [9], [1, 4, STCURRENT])
+        yield from ([10, 0xFFFFFFF1] for _ in range(r.randrange(4)))
+        yield [10, 0xFFFFFFF9]
+
+
 def is_old(event):
     """Whether E4's proviso lets the event stand in an old script."""
     if event[0] in (3, 12):
@@ -260,11 +329,12 @@ def events(r, lines, deep):
             yield shown(*one[1:])
 
 
-def script(seed, length, lines=55, old=False, deep=False, guard=False, bits=False, pulses=False):
+def script(seed, length, lines=55, old=False, deep=False, guard=False, bits=False, pulses=False, skips=False):
     """At most `length` bytes of whole events; only those of an old script, with a deep nest first, or about the guard, priorities near
-    each other or lost pulses, if so asked."""
+    each other, lost pulses or idle time, if so asked."""
     out, r = bytearray(), random.Random(seed)
-    for one in guarded(r) if guard else prioritised(r, lines) if bits else pulsed(r, lines) if pulses else events(r, lines, deep):
+    about = guarded(r) if guard else prioritised(r, lines) if bits else pulsed(r, lines) if pulses else idle(r, lines) if skips else None
+    for one in about or events(r, lines, deep):
         if old and not is_old(one):
             continue
         more = b"".join(number(n) for n in one)

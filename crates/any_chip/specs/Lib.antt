@@ -6,3 +6,4 @@ pub mod Bounds
 pub mod ComesAndGoes
 pub mod PriorityBits
 pub mod LostPulses
+pub mod IdleTime

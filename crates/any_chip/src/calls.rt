@@ -2,7 +2,7 @@
 ghost use mathlib.Core.Path.{_≡_};
 ghost use Rattle.rules.specs.Chip.{chipOf};
 ghost use Rattle.rules.specs.Step.{stepOf};
-ghost use Rattle.script.specs.declared.Event.the-variants.{Read, Write, Line, Nmi, Tick, Fault, Svc, Special, Entry, Return, Access, Lost};
+ghost use Rattle.script.specs.declared.Event.the-variants.{Read, Write, Line, Nmi, Tick, Fault, Svc, Special, Entry, Return, Access, Lost, Skip};
 ghost use Rattle.script.specs.declared.AccessKind.the-variants.{Other};
 ghost use Rattle.any_chip.specs.View.{model, reply};
 use super::Reply;
@@ -140,5 +140,12 @@ impl State {
         ensures { λ r. ⌜ r ≡ reply (self .setup) (stepOf (chipOf (self .setup)) (model self) (Lost line)) ⌝ }
     {
         self.step(Event::Lost(line))
+    }
+
+    // What so many calls of `tick` leave, in the time of one; 1 if one of them would answer 1.
+    pub fn skip(self, count: u32) -> Reply
+        ensures { λ r. ⌜ r ≡ reply (self .setup) (stepOf (chipOf (self .setup)) (model self) (Skip count)) ⌝ }
+    {
+        self.step(Event::Skip(count))
     }
 }

@@ -38,7 +38,7 @@ fn poked(mut s: State, field: Field, i: usize) -> State
     s
 }
 
-// The twelve calls, then `step`. Most of them would be refused by another number after 16.
+// The thirteen calls, then `step`. Most of them would be refused by another number after 16.
 fn called(s: State, call: u32) -> Reply {
     match call {
         0 => s.read(3, 0xe000e001),
@@ -53,6 +53,7 @@ fn called(s: State, call: u32) -> Reply {
         9 => s.return_(0xfffffff9),
         10 => s.access(3, 3, 1),
         11 => s.lost(300),
+        12 => s.skip(0xffffffff),
         _ => s.step(Event::Tick),
     }
 }
@@ -69,7 +70,7 @@ fn refused(before: State, r: Reply) {
 
 fn every_call(s: State) {
     let mut call: u32 = 0;
-    while call < 13 {
+    while call < 14 {
         refused(s, called(s, call));
         call += 1;
     }

@@ -5,6 +5,7 @@ use super::pieces::scripted;
 use super::pieces::too_long;
 use super::poke::filled;
 use super::poke::poked;
+use super::show::alike;
 use super::show::answer;
 use super::show::masks;
 use model::Reply;
@@ -49,7 +50,7 @@ fn parsed(line: &[u8]) -> Command {
     }
 }
 
-// By the call of the event's kind. What is none of these eleven is an access.
+// By the call of the event's kind. What is none of these twelve is an access.
 fn called(s: State, k: Command) -> Reply {
     let name = k.name;
     match name {
@@ -64,6 +65,7 @@ fn called(s: State, k: Command) -> Reply {
         0x656e7472 => s.entry(), // entr
         0x72657475 => s.return_(k.a), // retu
         0x6c6f7374 => s.lost(k.a), // lost
+        0x736b6970 => s.skip(k.a), // skip
         _ => s.access(k.a, k.b, k.c),
     }
 }
@@ -82,6 +84,7 @@ fn event(k: Command) -> Event {
         0x656e7472 => Event::Entry,
         0x72657475 => Event::Return(k.a),
         0x6c6f7374 => Event::Lost(k.a),
+        0x736b6970 => Event::Skip(k.a),
         _ => Event::Access(AccessKind::Other(k.a), k.b, k.c),
     }
 }
@@ -118,6 +121,11 @@ fn brought_back(bench: Bench) -> Bench {
     Bench { state: kept, kept }
 }
 
+fn compared(bench: Bench, line: &[u8]) -> Bench {
+    alike(line, bench.state, bench.kept);
+    bench
+}
+
 fn moved(bench: Bench, line: &[u8], k: Command) -> Bench {
     let state = bench.state;
     let kept = bench.kept;
@@ -134,6 +142,7 @@ pub fn obeyed(bench: Bench, line: &[u8]) -> Bench {
         0x23 => bench,
         0x6b656570 => put_aside(bench), // keep
         0x6261636b => brought_back(bench), // back
+        0x6b657074 => compared(bench, line), // kept
         _ => moved(bench, line, k),
     }
 }

@@ -50,6 +50,16 @@ pub fn answer(line: &[u8], before: State, r: Reply, stepped: Reply) {
     text(b", but not by step\n");
 }
 
+// Whether two states are the same.
+pub fn alike(line: &[u8], a: State, b: State) {
+    text(line);
+    if same_state(a, b) {
+        text(b": same\n");
+        return;
+    }
+    text(b": not the same\n");
+}
+
 // PRIMASK, FAULTMASK, BASEPRI, CONTROL bit 0, CONTROL bit 1.
 pub fn masks(line: &[u8], s: State) -> State {
     let core = s.core;

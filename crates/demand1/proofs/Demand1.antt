@@ -22,7 +22,7 @@ use Rattle.rules.specs.Laws.{all, in-all}
 use Rattle.rules.specs.Model.{Model, Answer, refuse}
 use Rattle.rules.specs.Priorities.{execution, isNegative, privileged}
 use Rattle.rules.specs.Sound.{isSound}
-use Rattle.rules.specs.Events.{lineCall, lostCall, tickCall, escalates, raised, faultException, faultStatus, faultRaised, faultAt, faultCall, svcAt, svcCall, specialAt, specialCall}
+use Rattle.rules.specs.Events.{lineCall, lostCall, tickCall, skipCall, escalates, raised, faultException, faultStatus, faultRaised, faultAt, faultCall, svcAt, svcCall, specialAt, specialCall}
 use Rattle.rules.specs.Nesting.{chosen, enter, entryAt, entryCall, linkFits, returnCall}
 use Rattle.rules.specs.Map.{registerOf, widthRefusal}
 use Rattle.rules.specs.Registers.{isWidth, accessRefusal, readCall, freeWrite, writeCall}
@@ -98,6 +98,10 @@ module _ (c : Chip) (m : Model) where
   unfolding tickCall
   tick-fine = inl refl
 
+  skip-fine : (n : ℕ) → Fine (event.Skip n) (skipCall m n)
+  unfolding skipCall
+  skip-fine n = inl refl
+
   -- the number made pending is never a refusal
   raised-fine : (e : Event) (limit : ℤ) (n : ℕ) (status : System) → Fine e (raised limit m n status)
   unfolding raised
@@ -157,6 +161,7 @@ module _ (c : Chip) (m : Model) where
   act-fine (event.Return v) = return-fine v
   act-fine (event.Access kind w a) = access-fine (accessNumber kind) w a (event.Access kind w a) refl
   act-fine (event.Lost line) = lost-fine line
+  act-fine (event.Skip n) = skip-fine n
 
   own-below : (e : Event) → T (all (λ (n : ℕ). ltb n 16) (ownRefusals e))
   unfolding all
@@ -172,6 +177,7 @@ module _ (c : Chip) (m : Model) where
   own-below (event.Return v) = tt
   own-below (event.Access kind w a) = tt
   own-below (event.Lost line) = tt
+  own-below (event.Skip n) = tt
 
   -- an event that is let through answers neither 16 nor 17
   below-16 : (e : Event) → Fine e (actOf c m e) → actOf c m e .refusal < 16

@@ -52,7 +52,8 @@ event-read kind a b c next =
     (λ _. by-cases Read (eqb kind 9) (λ _. tt)
     (λ _. by-cases Read (eqb kind 10) (λ _. tt)
     (λ _. by-cases Read (eqb kind 11) (λ _. tt)
-    (λ _. by-cases Read (eqb kind 12) (λ _. tt) (λ _. tt))))))))))))
+    (λ _. by-cases Read (eqb kind 12) (λ _. tt)
+    (λ _. by-cases Read (eqb kind 13) (λ _. tt) (λ _. tt)))))))))))))
 
 arguments-read : (kind : ℕ) (ns : Numbers) → Read (withArguments kind ns)
 unfolding withArguments

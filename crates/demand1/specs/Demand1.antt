@@ -47,6 +47,8 @@ ownRefusals (event.Return v) = 9 ∷ []
 ownRefusals (event.Access kind w a) = 6 ∷ 1 ∷ 2 ∷ []
 -- document 02, E1: "6 for a line above 54, as for event 3"
 ownRefusals (event.Lost line) = 6 ∷ []
+-- E5: "Refusals: none new."
+ownRefusals (event.Skip n) = []
 
 -- "16: state not sound", of every kind; document 02, E7: "17, a chip setup with w outside 3 to 8, checked before all others"
 abbrev pub refusals : Event → List ℕ

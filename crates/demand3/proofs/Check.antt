@@ -20,7 +20,7 @@ use Rattle.rules.specs.declared.Place.{Place}
 use Rattle.rules.specs.declared.Place.the-variants.{Exception, Enable, Line}
 use Rattle.rules.specs.declared.System.{System}
 use Rattle.rules.specs.Chip.{fits, flagCount, exceptionCount, isIn, hasByte, stands}
-use Rattle.rules.specs.Model.{Model, Answer, stack}
+use Rattle.rules.specs.Model.{Model, Answer, refuse, stack}
 use Rattle.rules.specs.SystemBlock.{keptVtable, keptSysctrl, keptCfgctrl, keptFaultstat, keptHfaultstat}
 use Rattle.rules.specs.Sound.{flagSound, byteSound, countSound, nestedSound, allOn, allDistinct, unusedSound, soundNest, soundFlags, soundSystem, isSized, isSound, Flags, PriorityBytes, Nested, Places, Counts, SoundSystem, Sound}
 use Rattle.rules.specs.Step.{actOf, guarded, admitted, stepOf}
@@ -225,3 +225,17 @@ guard-passes {c} {m} h a = rw (true-is (isSound c m) (sound-of h))
 pub step-sound : {c : Chip} {m : Model} → T (fits c) → Sound c m → (e : Event) → stepOf c m e ≡ actOf c m e
 unfolding admitted
 step-sound {c} {m} f h e = rw (true-is (fits c) f) (guard-passes h (actOf c m e))
+
+-- an event on a model is let through, or every event on it is refused by the same number
+pub data Way (c : Chip) (m : Model) : Type 0 where
+  through : T (fits c) → Sound c m → Way c m
+  refused : (k : ℕ) → ((e : Event) → stepOf c m e ≡ refuse k m) → Way c m
+
+pub way : (c : Chip) (m : Model) → Way c m
+unfolding admitted guarded
+way c m = go (fits c) (isSound c m) refl refl
+  where
+    go : (a b : Bool) → fits c ≡ a → isSound c m ≡ b → Way c m
+    go true true p q = through (is-true p) (of-sound c m (is-true q))
+    go true false p q = refused 16 (λ e. simp (p, q))
+    go false b p q = refused 17 (λ e. simp p)

@@ -83,6 +83,7 @@ moved-still m event.Svc r = refl
 moved-still m (event.Special k v) r = refl
 moved-still m (event.Access k w x) r = refl
 moved-still m (event.Lost line) r = refl
+moved-still m (event.Skip n) r = refl
 
 ledger-still : {c : Chip} {m t : Model} {es : List Event} {rs : List Answer} → fits c ≡ false → Calls c m es rs t → (r : List ℕ) → ledger r es rs ≡ r
 ledger-still f stop r = refl

@@ -1,6 +1,6 @@
 -- Lines, NMI, SysTick, faults, SVC and the special registers leave the nest alone and keep the model sound.
 use Prim.Native.Nat.{ℕ, _+_}
-use mathlib.Core.Path.{_≡_}
+use mathlib.Core.Path.{_≡_, sym, subst}
 use mathlib.Core.List.{[], _∷_}
 use mathlib.Core.Bool.{Bool, true, not, _&&_, _||_}
 use native.Mathlib.Omega.{arith}
@@ -10,8 +10,11 @@ use Rattle.bits.specs.Words.{bitAt, withBit}
 use Rattle.grouping.specs.Grouping.{keptByte}
 use Rattle.bools.specs.Tests.{not-or-left, by-cases}
 use Rattle.priority.specs.declared.Found.the-variants.{At}
-use Rattle.systick.specs.Timer.{tickOf}
+use Rattle.systick.specs.declared.Ticked.{Ticked}
+use Rattle.systick.specs.Timer.{tickOf, SoundTimer}
 use Rattle.systick.specs.Laws.{tick-sound}
+use Rattle.systick.specs.Skip.{skipOf}
+use Rattle.systick.specs.SkipLaws.{skip-sound}
 use Rattle.rules.specs.declared.Chip.{Chip}
 use Rattle.rules.specs.declared.Place.the-variants.{Exception, Line}
 use Rattle.rules.specs.declared.Masks.{Masks}
@@ -21,9 +24,10 @@ use Rattle.rules.specs.Model.{Model, Answer}
 use Rattle.rules.specs.Priorities.{execution, isNegative, privileged}
 use Rattle.rules.specs.SystemBlock.{keptFaultstat}
 use Rattle.rules.specs.Sound.{Counts, SoundSystem, Sound}
-use Rattle.rules.specs.Events.{levelled, losesRise, counted, lineCall, lostCall, nmiCall, tickCall, escalates, forced, raised, faultException, faultStatus, faultRaised, faultAt, faultCall, svcAt, svcCall, faultmaskWritten, basepriRaised, controlWritten, specialWritten, specialAt, specialCall}
+use Rattle.rules.specs.Events.{levelled, losesRise, counted, lineCall, lostCall, nmiCall, tickedModel, tickCall, skipCall, escalates, forced, raised, faultException, faultStatus, faultRaised, faultAt, faultCall, svcAt, svcCall, faultmaskWritten, basepriRaised, controlWritten, specialWritten, specialAt, specialCall}
 use Rattle.demand3.proofs.Words.{inside, faultstatFields, faultstat-with, hfaultstat-with}
 use Rattle.rules.specs.Laws.{all, in-all, is-line, line-stands}
+use Rattle.rules.specs.SkipLaws.{skip-timer}
 use Rattle.demand3.proofs.Parts.{flags-set, counts-more, kept-byte-twice}
 use Rattle.demand3.proofs.Quiet.{Quiet, stay, put-level, put-lost, put-masks, put-timer, put-system, pend-quiet}
 
@@ -94,10 +98,16 @@ module _ {c : Chip} {m : Model} (h : Sound c m) where
   pub nmi-quiet : Quiet c m (nmiCall m .next)
   nmi-quiet = pend-quiet (stay h) 2 tt
 
+  -- one tick, or many
+  ticked-quiet : (t : Ticked) → SoundTimer (t .timer) → Quiet c m (tickedModel t m)
+  ticked-quiet t s = put-timer (by-cases (Quiet c m) (t .pends) (λ _. pend-quiet (stay h) 15 tt) (λ _. stay h)) s
+
   pub tick-quiet : Quiet c m (tickCall m .next)
   unfolding tickCall
-  tick-quiet =
-      put-timer (by-cases (Quiet c m) (tickOf (m .core .timer) .pends) (λ _. pend-quiet (stay h) 15 tt) (λ _. stay h)) (tick-sound (h .core .timer))
+  tick-quiet = ticked-quiet (tickOf (m .core .timer)) (tick-sound (h .core .timer))
+
+  pub skip-quiet : (n : ℕ) → Quiet c m (skipCall m n .next)
+  skip-quiet n = subst Leaves (sym (skip-timer m n)) (ticked-quiet (skipOf n (m .core .timer)) (skip-sound n (h .core .timer)))
 
   raised-quiet : (n : ℕ) (s : System) → T (exists c n) → SoundSystem c s → Quiet c m (raised (execution m) m n s .next)
   unfolding raised

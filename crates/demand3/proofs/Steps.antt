@@ -29,7 +29,7 @@ use Rattle.demand3.specs.Demand3.{moved, SamePriorities}
 use Rattle.demand3.proofs.Parts.{getD-fresh, flags-fresh, bytes-fresh, kept-byte-zero, places-fresh, counts-fresh, rising-drop}
 use Rattle.demand3.proofs.Check.{guard-passes}
 use Rattle.demand3.proofs.Quiet.{Quiet, stay}
-use Rattle.demand3.proofs.Events.{line-quiet, lost-quiet, nmi-quiet, tick-quiet, fault-quiet, svc-quiet, special-quiet}
+use Rattle.demand3.proofs.Events.{line-quiet, lost-quiet, nmi-quiet, tick-quiet, skip-quiet, fault-quiet, svc-quiet, special-quiet}
 use Rattle.demand3.proofs.Registers.{read-call-quiet, write-call-quiet}
 use Rattle.rules.specs.Laws.{link-deep}
 use Rattle.demand3.proofs.Nesting.{chosen-able, stack-entered, sound-entered, rising-entered, Popped, returned-popped}
@@ -92,6 +92,7 @@ module _ {c : Chip} {m : Model} (h : Sound c m) where
   act-ok (event.Return v) = return-ok v
   act-ok (event.Access kind w a) = quiet (event.Access kind w a) refl (access-quiet (accessNumber kind) w a)
   act-ok (event.Lost line) = quiet (event.Lost line) refl (lost-quiet h line)
+  act-ok (event.Skip n) = quiet (event.Skip n) refl (skip-quiet h n)
 
   pub act-sound : (e : Event) → Sound c (actOf c m e .next)
   act-sound e = act-ok e .sound

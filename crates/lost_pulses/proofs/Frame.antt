@@ -1,6 +1,6 @@
 -- No event but a level event moves a level, and none but event 12 looks at a count: by the definition of each, register by register.
 use Prim.Native.Nat.{ℕ, pred, _%_}
-use mathlib.Core.Path.{_≡_, refl, ap}
+use mathlib.Core.Path.{_≡_, refl, sym, ap, subst, _∙_}
 use mathlib.Core.Logic.{_≢_}
 use mathlib.Core.List.{List}
 use mathlib.Core.Bool.{Bool, true, false, not, cond, _&&_, _||_}
@@ -12,7 +12,9 @@ use Rattle.bools.specs.Tests.{by-cases}
 use Rattle.flag_words.specs.Flags.{on}
 use Rattle.priority.specs.declared.Found.{Found}
 use Rattle.priority.specs.declared.Found.the-variants.{At, Nothing}
+use Rattle.systick.specs.declared.Ticked.{Ticked}
 use Rattle.systick.specs.Timer.{tickOf}
+use Rattle.systick.specs.Skip.{skipOf}
 use Rattle.script.specs.Event.{accessNumber, kindOf}
 use Rattle.script.specs.declared.Event.{Event}
 use Rattle.script.specs.declared.Event.the-variants as event
@@ -26,7 +28,8 @@ use Rattle.rules.specs.declared.SystemRegister.the-variants.{Ictype, Cpuid, Int
 use Rattle.rules.specs.declared.System.{System}
 use Rattle.rules.specs.Model.{Model, Answer, done, stack, down, top, withActive, withNest, withLost, withDepth, withMasks, withTimer}
 use Rattle.rules.specs.Priorities.{execution, isNegative, privileged}
-use Rattle.rules.specs.Events.{levelled, lostCall, tickCall, escalates, raised, faultException, faultStatus, faultRaised, faultAt, svcAt, specialAt}
+use Rattle.rules.specs.SkipLaws.{skip-timer}
+use Rattle.rules.specs.Events.{levelled, lostCall, tickedModel, tickCall, escalates, raised, faultException, faultStatus, faultRaised, faultAt, svcAt, specialAt}
 use Rattle.rules.specs.Nesting.{chosen, entered, enter, entryAt, linkFits, returnedMasks, repended, returned, returnCall}
 use Rattle.rules.specs.Map.{registerOf}
 use Rattle.rules.specs.Reads.{bankValue, systemValue, valueOf, afterRead}
@@ -117,6 +120,9 @@ module _ (c : Chip) (m : Model) where
   enter-levels Nothing = refl
   enter-levels (At n) = refl
 
+  ticked-levels : (t : Ticked) → Level (tickedModel t m)
+  ticked-levels t = by-cases Level (t .pends) (λ _. refl) (λ _. refl)
+
   pub same-levels : (e : Event) → kindOf e ≢ 3 → Leaves (actOf c m e)
   unfolding kindOf readCall writeCall written lostCall tickCall svcAt specialAt entryAt returnCall returned repended accessAt
   same-levels (event.Read w a) n3 = by-cases Leaves (eqb (accessRefusal (registerOf c a) (privileged (m .core)) w a) 0) (λ _. read-levels (registerOf c a)) (λ _. refl)
@@ -126,7 +132,7 @@ module _ (c : Chip) (m : Model) where
       (λ _. refl)
   same-levels (event.Line line level) n3 = absurd (n3 refl)
   same-levels event.Nmi n3 = refl
-  same-levels event.Tick n3 = by-cases Level (tickOf (m .core .timer) .pends) (λ _. refl) (λ _. refl)
+  same-levels event.Tick n3 = ticked-levels (tickOf (m .core .timer))
   same-levels (event.Fault b a) n3 = fault-levels (execution m) b a
   same-levels event.Svc n3 = by-cases Leaves (isNegative (execution m)) (λ _. refl) (λ _. raised-levels (execution m) 11 (m .core .system))
   same-levels (event.Special which v) n3 = by-cases Leaves (ltb 4 which) (λ _. refl) (λ _. by-cases Leaves (privileged (m .core)) (λ _. refl) (λ _. refl))
@@ -138,6 +144,7 @@ module _ (c : Chip) (m : Model) where
       (λ _. by-cases Leaves (not (fitsAccess (accessNumber kind) w)) (λ _. refl)
       (λ _. by-cases Leaves (not (eqb (a % w) 0)) (λ _. refl) (λ _. refl)))
   same-levels (event.Lost line) n3 = by-cases Leaves (leb (c .lines) line) (λ _. refl) (λ _. refl)
+  same-levels (event.Skip n) n3 = subst Leaves (sym (skip-timer m n)) (ticked-levels (skipOf n (m .core .timer)))
 
 -- ---- what an event makes of other counts
 
@@ -263,6 +270,9 @@ module _ (c : Chip) (m : Model) (x : List ℕ) where
       (λ (t : Model). withMasks (returnedMasks (top (stack m)) v (m .core .masks)) (withDepth (pred (m .core .depth)) (withNest (set (m .nest) (pred (m .core .depth)) 0) (withActive (set (m .active) (top (stack m)) false) t))))
       (model-choice (on (m .level) (top (stack m))) _ _ refl refl)
 
+  ticked-frame : (t : Ticked) → tickedModel t (withLost x m) ≡ withLost x (tickedModel t m)
+  ticked-frame t = ap (withTimer (t .timer)) (model-choice (t .pends) _ _ refl refl)
+
   -- every event but a level event and event 12
   pub same-frame : (e : Event) → kindOf e ≢ 3 → kindOf e ≢ 12 → actOf c (withLost x m) e ≡ counting x (actOf c m e)
   unfolding kindOf readCall writeCall written tickCall svcAt specialAt entryAt returnCall accessAt execution
@@ -274,8 +284,7 @@ module _ (c : Chip) (m : Model) (x : List ℕ) where
       refl
   same-frame (event.Line line level) n3 n12 = absurd (n3 refl)
   same-frame event.Nmi n3 n12 = refl
-  same-frame event.Tick n3 n12 =
-      ap (λ (t : Model). done (bit (tickOf (m .core .timer) .fell)) (withTimer (tickOf (m .core .timer) .timer) t)) (model-choice (tickOf (m .core .timer) .pends) _ _ refl refl)
+  same-frame event.Tick n3 n12 = ap (done (bit (tickOf (m .core .timer) .fell))) (ticked-frame (tickOf (m .core .timer)))
   same-frame (event.Fault b a) n3 n12 = fault-frame (execution m) b a
   same-frame event.Svc n3 n12 = choice (isNegative (execution m)) _ _ refl (raised-frame (execution m) 11 (m .core .system))
   same-frame (event.Special which v) n3 n12 = choice (ltb 4 which) _ _ refl (choice (privileged (m .core)) _ _ refl refl)
@@ -285,3 +294,7 @@ module _ (c : Chip) (m : Model) (x : List ℕ) where
   same-frame (event.Access kind w a) n3 n12 =
       choice (ltb 2 (accessNumber kind)) _ _ refl (choice (not (fitsAccess (accessNumber kind) w)) _ _ refl (choice (not (eqb (a % w) 0)) _ _ refl refl))
   same-frame (event.Lost line) n3 n12 = absurd (n12 refl)
+  same-frame (event.Skip n) n3 n12 =
+      skip-timer (withLost x m) n
+      ∙ ap (done (bit (skipOf n (m .core .timer) .fell))) (ticked-frame (skipOf n (m .core .timer)))
+      ∙ sym (ap (counting x) (skip-timer m n))

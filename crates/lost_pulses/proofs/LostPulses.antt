@@ -53,6 +53,7 @@ sort event.Entry = is-other (λ q. omega arith) (λ q. omega arith)
 sort (event.Return v) = is-other (λ q. omega arith) (λ q. omega arith)
 sort (event.Access kind w a) = is-other (λ q. omega arith) (λ q. omega arith)
 sort (event.Lost line) = is-count line refl
+sort (event.Skip n) = is-other (λ q. omega arith) (λ q. omega arith)
 
 -- ---- tests
 

@@ -3,3 +3,4 @@ pub mod Demand3
 pub mod Bounds
 pub mod ComesAndGoes
 pub mod LostPulses
+pub mod IdleTime

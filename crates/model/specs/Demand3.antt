@@ -20,7 +20,7 @@ answer r =
 
 -- Calls for the events es, the first on s, each next on the state that the last one handed back, replied to by rs, the last leaving t.
 -- The equation is the contract of `step`, and of the call of the event's own kind: read, write, line, nmi, tick, fault, svc, special,
--- entry, return_, access, lost.
+-- entry, return_, access, lost, skip.
 pub data Called : State → List Event → List Reply → State → Type 0 where
   stop : {s : State} → Called s [] [] s
   call : {s t : State} {e : Event} {r : Reply} {es : List Event} {rs : List Reply} → r ≡ reply (stepOf chip55 (model s) e) → Called (r .state) es rs t → Called s (e ∷ es) (r ∷ rs) t

@@ -14,7 +14,10 @@ use Rattle.flag_words.specs.Flags.{on}
 use Rattle.priority.specs.declared.Found.{Found}
 use Rattle.priority.specs.declared.Found.the-variants.{At, Nothing}
 use Rattle.priority.specs.Priority.{executionNested, masked}
+use Rattle.systick.specs.declared.Timer.{Timer}
+use Rattle.systick.specs.declared.Ticked.{Ticked}
 use Rattle.systick.specs.Timer.{tickOf}
+use Rattle.systick.specs.Skip.{skipOf}
 use Rattle.rules.specs.declared.Chip.{Chip}
 use Rattle.rules.specs.declared.Core.{Core}
 use Rattle.rules.specs.declared.System.{System}
@@ -22,10 +25,11 @@ use Rattle.rules.specs.Chip.{flagCount, exceptionCount, isIn}
 use Rattle.rules.specs.Model.{Model, Answer, refuse, done, down, stack, top, withPending, withActive, withEnabled, withLevel, withPriority, withNest, withLost, withCore, withDepth, withMasks, putDepth, putMasks, putTimer, putSystem}
 use Rattle.rules.specs.Priorities.{execution, isNegative, privileged}
 use Rattle.rules.specs.Sound.{Sound}
-use Rattle.rules.specs.Events.{pend, levelled, losesRise, oneMore, counted, lineCall, lostCall, nmiCall, tickedModel, tickCall, escalates, forced, raised, faultException, faultStatus, faultRaised, faultAt, faultCall, svcAt, svcCall, specialWritten, specialAt, specialCall}
+use Rattle.rules.specs.Events.{pend, levelled, losesRise, oneMore, counted, lineCall, lostCall, nmiCall, tickedModel, tickCall, skipCall, escalates, forced, raised, faultException, faultStatus, faultRaised, faultAt, faultCall, svcAt, svcCall, specialWritten, specialAt, specialCall}
 use Rattle.rules.specs.Nesting.{chosen, linkOf, withSpsel, entered, enter, entryAt, entryCall, linkFits, returnedMasks, repended, returned, returnCall}
 use Rattle.rules.specs.Access.{fitsAccess, accessAt, accessCall}
 use Rattle.rules.specs.Laws.{link-deep}
+use Rattle.rules.specs.SkipLaws.{skip-timer}
 use Rattle.demand3.proofs.Nesting.{execution-nest, chosen-below, top-below}
 use Rattle.old_scripts.specs.Alike.{Same, Alike}
 use Rattle.old_scripts.specs.OldScripts.{Grown}
@@ -172,12 +176,19 @@ module _ {c d : Chip} (g : Grown c d) {m t : Model} (h : Sound c m) (k : Sound d
   pub nmi-meets : Meets (nmiCall m) (nmiCall t)
   nmi-meets = meets-done refl (pended 2 (omega arith))
 
+  -- ticks that the timer makes: one, or many
+  ticked-meets : (f : Timer → Ticked) → Meets (done (bit (f (m .core .timer) .fell)) (tickedModel (f (m .core .timer)) m)) (done (bit (f (t .core .timer) .fell)) (tickedModel (f (t .core .timer)) t))
+  ticked-meets f =
+      meets-done (ap (λ (x : Core). bit (f (x .timer) .fell)) (a .core))
+      (subst (λ (x : Core). Alike (tickedModel (f (m .core .timer)) m) (tickedModel (f (x .timer)) t)) (a .core)
+      (put-core (both-ways Alike (f (m .core .timer) .pends) (f (m .core .timer) .pends) refl (λ _. pended 15 (omega arith)) (λ _. a)) (putTimer (f (m .core .timer) .timer))))
+
   pub tick-meets : Meets (tickCall m) (tickCall t)
   unfolding tickCall
-  tick-meets =
-      meets-done (ap (λ (x : Core). bit (tickOf (x .timer) .fell)) (a .core))
-      (subst (λ (x : Core). Alike (tickedModel (tickOf (m .core .timer)) m) (tickedModel (tickOf (x .timer)) t)) (a .core)
-      (put-core (both-ways Alike (tickOf (m .core .timer) .pends) (tickOf (m .core .timer) .pends) refl (λ _. pended 15 (omega arith)) (λ _. a)) (putTimer (tickOf (m .core .timer) .timer))))
+  tick-meets = ticked-meets tickOf
+
+  pub skip-meets : (n : ℕ) → Meets (skipCall m n) (skipCall t n)
+  skip-meets n = subst (λ x. Meets x (skipCall t n)) (sym (skip-timer m n)) (subst (Meets _) (sym (skip-timer t n)) (ticked-meets (skipOf n)))
 
   -- ---- faults and SVC
 

@@ -21,7 +21,7 @@ use Rattle.text.specs.Text.{lineOf, linesOf, endText, scriptText, admittedText,
 use Rattle.old_scripts.specs.Alike.{Alike, Agree, Agreeing}
 use Rattle.old_scripts.specs.OldScripts.{avoids, namesOwn, isOld, areOld, Grown, OldScripts}
 use Rattle.old_scripts.proofs.Lists.{same-fresh}
-use Rattle.old_scripts.proofs.Calls.{Meets, execution-same, stack-same, line-meets, lost-meets, nmi-meets, tick-meets, fault-meets, svc-meets, special-meets, entry-meets, return-meets, access-meets}
+use Rattle.old_scripts.proofs.Calls.{Meets, execution-same, stack-same, line-meets, lost-meets, nmi-meets, tick-meets, skip-meets, fault-meets, svc-meets, special-meets, entry-meets, return-meets, access-meets}
 use Rattle.old_scripts.proofs.Registers.{read-meets, write-meets}
 
 fresh-alike : (c d : Chip) → Alike (fresh c) (fresh d)
@@ -58,6 +58,7 @@ module _ {c d : Chip} (g : Grown c d) where
   act-meets h k a (event.Return v) o = return-meets g h k a v
   act-meets h k a (event.Access kind w x) o = access-meets g h k a (accessNumber kind) w x
   act-meets h k a (event.Lost line) o = lost-meets g h k a line (ltb→lt line (c .lines) o)
+  act-meets h k a (event.Skip n) o = skip-meets g h k a n
 
   step-meets : {m t : Model} → Sound c m → Sound d t → Alike m t → (e : Event) → T (isOld c d e) → Meets (stepOf c m e) (stepOf d t e)
   step-meets {m} {t} h k a e o =

@@ -3,7 +3,7 @@ use mathlib.Core.Path.{_≡_, refl}
 use mathlib.Core.List.{List, [], _∷_}
 use mathlib.Core.Bool.{Bool, true, false}
 use Rattle.script.specs.declared.Event.{Event}
-use Rattle.script.specs.declared.Event.the-variants.{Read, Write, Line, Entry, Lost}
+use Rattle.script.specs.declared.Event.the-variants.{Read, Write, Line, Entry, Lost, Skip}
 use Rattle.script.specs.Event.{arity}
 use Rattle.script.specs.Reading.{before, then, numbersAt, eventOf, withArguments, withKind, readEvent}
 use Rattle.script.specs.Script.{followed, scriptFrom, scriptOf}
@@ -54,6 +54,11 @@ lines = refl
 counts : tested (Lost 54 ∷ Lost 55 ∷ Lost 240 ∷ []) ≡ true ∷ false ∷ false ∷ []
 unfolding isOld
 counts = refl
+
+-- a skip names no line, whatever its count
+skips : tested (Skip 0 ∷ Skip 55 ∷ Skip 0xFFFFFFFF ∷ []) ≡ true ∷ true ∷ true ∷ []
+unfolding isOld
+skips = refl
 
 -- the script of document 01 is an old one
 worked : areOld chip55 chip240 (scriptOf script01 .events) ≡ true

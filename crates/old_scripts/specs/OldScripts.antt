@@ -106,6 +106,7 @@ isOld c d (event.Return v) = true
 isOld c d (event.Access kind w a) = true
 -- event 12 (E1) names a line as event 3 does
 isOld c d (event.Lost line) = isOwn c line
+isOld c d (event.Skip n) = true
 
 abbrev pub areOld : Chip → Chip → List Event → Bool
 areOld c d [] = true

@@ -15,5 +15,6 @@ pub mod Lent
 pub mod Laws
 pub mod Table
 pub mod LineLaws
+pub mod SkipLaws
 pub mod Chip240
 pub mod PriorityBits

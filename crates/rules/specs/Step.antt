@@ -8,7 +8,7 @@ use Rattle.rules.specs.declared.Chip.{Chip}
 use Rattle.rules.specs.Chip.{fits}
 use Rattle.rules.specs.Model.{Model, Answer, refuse}
 use Rattle.rules.specs.Sound.{isSound}
-use Rattle.rules.specs.Events.{lineCall, lostCall, nmiCall, tickCall, faultCall, svcCall, specialCall}
+use Rattle.rules.specs.Events.{lineCall, lostCall, nmiCall, tickCall, skipCall, faultCall, svcCall, specialCall}
 use Rattle.rules.specs.Nesting.{entryCall, returnCall}
 use Rattle.rules.specs.Registers.{readCall, writeCall}
 use Rattle.rules.specs.Access.{accessCall}
@@ -27,6 +27,7 @@ actOf c m event.Entry = entryCall m
 actOf c m (event.Return v) = returnCall m v
 actOf c m (event.Access kind w a) = accessCall m (accessNumber kind) w a
 actOf c m (event.Lost line) = lostCall c m line
+actOf c m (event.Skip n) = skipCall m n
 
 -- "16: state not sound"; "Checks run in order 16, .."
 unfoldable pub guarded : Chip → Model → Answer → Answer

@@ -10,7 +10,7 @@ use lib.Dec.{eqb, ltb}
 use borrow.Author.Tests.{le-ltb, ltb-false, leb-true, le-leb, eqb-true}
 use Rattle.script.specs.declared.AccessKind.the-variants as kind
 use Rattle.script.specs.declared.Event.{Event}
-use Rattle.script.specs.declared.Event.the-variants.{Read, Write, Line, Nmi, Tick, Fault, Svc, Special, Entry, Return, Access, Lost}
+use Rattle.script.specs.declared.Event.the-variants.{Read, Write, Line, Nmi, Tick, Fault, Svc, Special, Entry, Return, Access, Lost, Skip}
 use Rattle.script.specs.declared.ReadEvent.{ReadEvent}
 use Rattle.script.specs.declared.ReadEvent.the-variants.{Found, Refused}
 use Rattle.script.specs.declared.Written.the-variants as written
@@ -62,6 +62,7 @@ numbered Entry next = record { word = omega arith; count = refl; again = refl }
 numbered (Return value) next = record { word = omega arith; count = refl; again = refl }
 numbered (Access k width address) next = record { word = omega arith; count = refl; again = refl }
 numbered (Lost line) next = record { word = omega arith; count = refl; again = refl }
+numbered (Skip ticks) next = record { word = omega arith; count = refl; again = refl }
 
 pub event-written : (e : Event) (pre post : List ℕ) → InRange e → length (pre ++ (eventBytes e ++ post)) ≤ 65536 → readEvent (pre ++ (eventBytes e ++ post)) (length pre) ≡ Found (normal e) (length pre + length (eventBytes e))
 unfolding readEvent withKind eventBytes numbersBytes
@@ -157,25 +158,27 @@ module _ (number a b c next : ℕ) where
       (step 11 (Found (Access (accessKind a) b c) next) _
       (λ q. makes (Access (accessKind a) b c) (simp (q, access-number)) (simp access-number))
       (step 12 (Found (Lost a) next) _ (λ q. makes (Lost a) (simp q) refl)
-      unknown)))))))))))
+      (step 13 (Found (Skip a) next) _ (λ q. makes (Skip a) (simp q) refl)
+      unknown))))))))))))
     where
       unknown : Makes (Refused 14)
       unknown e end r = let z : _≡_ {A = ℕ} 0 1 = cc in let x : ⊥ = omega arith in absurd x
 
 pub arity-few : (kind : ℕ) → arity kind ≤ 3
 unfolding arity
-arity-few kind = cases (eqb kind 1) (eqb kind 2) (eqb kind 3) (eqb kind 6) (eqb kind 8) (eqb kind 10) (eqb kind 11) (eqb kind 12)
+arity-few kind = cases (eqb kind 1) (eqb kind 2) (eqb kind 3) (eqb kind 6) (eqb kind 8) (eqb kind 10) (eqb kind 11) (eqb kind 12) (eqb kind 13)
   where
-    cases : (b1 b2 b3 b6 b8 b10 b11 b12 : Bool) → cond b1 2 (cond b2 3 (cond b3 2 (cond b6 2 (cond b8 2 (cond b10 1 (cond b11 3 (cond b12 1 0))))))) ≤ 3
-    cases true b2 b3 b6 b8 b10 b11 b12 = omega arith
-    cases false true b3 b6 b8 b10 b11 b12 = omega arith
-    cases false false true b6 b8 b10 b11 b12 = omega arith
-    cases false false false true b8 b10 b11 b12 = omega arith
-    cases false false false false true b10 b11 b12 = omega arith
-    cases false false false false false true b11 b12 = omega arith
-    cases false false false false false false true b12 = omega arith
-    cases false false false false false false false true = omega arith
-    cases false false false false false false false false = omega arith
+    cases : (b1 b2 b3 b6 b8 b10 b11 b12 b13 : Bool) → cond b1 2 (cond b2 3 (cond b3 2 (cond b6 2 (cond b8 2 (cond b10 1 (cond b11 3 (cond b12 1 (cond b13 1 0)))))))) ≤ 3
+    cases true b2 b3 b6 b8 b10 b11 b12 b13 = omega arith
+    cases false true b3 b6 b8 b10 b11 b12 b13 = omega arith
+    cases false false true b6 b8 b10 b11 b12 b13 = omega arith
+    cases false false false true b8 b10 b11 b12 b13 = omega arith
+    cases false false false false true b10 b11 b12 b13 = omega arith
+    cases false false false false false true b11 b12 b13 = omega arith
+    cases false false false false false false true b12 b13 = omega arith
+    cases false false false false false false false true b13 = omega arith
+    cases false false false false false false false false true = omega arith
+    cases false false false false false false false false false = omega arith
 
 -- no more than three numbers are those that `withArguments` looks at
 padded : (ns : List ℕ) → length ns ≤ 3 → take (length ns) (getD ns 0 0 ∷ (getD ns 1 0 ∷ (getD ns 2 0 ∷ []))) ≡ ns

@@ -4,7 +4,7 @@ use mathlib.Core.List.{List, [], _∷_}
 use mathlib.Core.Bool.{cond}
 use lib.ListN.{length, getD}
 use lib.Dec.{eqb, ltb}
-use Rattle.script.specs.declared.Event.the-variants.{Read, Write, Line, Nmi, Tick, Fault, Svc, Special, Entry, Return, Access, Lost}
+use Rattle.script.specs.declared.Event.the-variants.{Read, Write, Line, Nmi, Tick, Fault, Svc, Special, Entry, Return, Access, Lost, Skip}
 use Rattle.script.specs.declared.ReadEvent.{ReadEvent}
 use Rattle.script.specs.declared.ReadEvent.the-variants.{Found, Refused}
 use Rattle.numbers.specs.declared.Number.{Number}
@@ -44,7 +44,8 @@ eventOf kind a b c next =
     (cond (eqb kind 10) (Found (Return a) next)
     (cond (eqb kind 11) (Found (Access (accessKind a) b c) next)
     (cond (eqb kind 12) (Found (Lost a) next)
-    (Refused 14))))))))))))
+    (cond (eqb kind 13) (Found (Skip a) next)
+    (Refused 14)))))))))))))
 
 unfoldable pub withArguments : ℕ → Numbers → ReadEvent
 withArguments kind (numbers ns next) = eventOf kind (getD ns 0 0) (getD ns 1 0) (getD ns 2 0) next

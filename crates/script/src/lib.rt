@@ -30,6 +30,7 @@ pub enum Event {
     Return(u32),
     Access(AccessKind, u32, u32),
     Lost(u32),
+    Skip(u32),
 }
 
 // An event and the offset after it, or the number of the refusal.
@@ -79,6 +80,7 @@ fn arity(kind: u32) -> u32
         10 => 1,
         11 => 3,
         12 => 1,
+        13 => 1,
         _ => 0,
     }
 }

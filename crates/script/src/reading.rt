@@ -25,6 +25,7 @@ fn event_of(kind: u32, a: u32, b: u32, c: u32, next: usize) -> ReadEvent
         10 => ReadEvent::Found(Event::Return(a), next),
         11 => ReadEvent::Found(Event::Access(crate::access_kind(a), b, c), next),
         12 => ReadEvent::Found(Event::Lost(a), next),
+        13 => ReadEvent::Found(Event::Skip(a), next),
         _ => ReadEvent::Refused(14),
     }
 }

@@ -33,6 +33,7 @@ fn numbers_of(e: Event) -> Spelled
         Event::Return(value) => Spelled(10, value, 0, 0),
         Event::Access(kind, width, address) => Spelled(11, access_number(kind), width, address),
         Event::Lost(line) => Spelled(12, line, 0, 0),
+        Event::Skip(count) => Spelled(13, count, 0, 0),
     }
 }
 

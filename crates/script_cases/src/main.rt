@@ -65,6 +65,7 @@ fn show(e: Event) {
         Event::Return(value) => show_numbers(10, value, 0, 0),
         Event::Access(kind, width, address) => show_access(kind, width, address),
         Event::Lost(line) => show_numbers(12, line, 0, 0),
+        Event::Skip(count) => show_numbers(13, count, 0, 0),
     }
 }
 
@@ -174,7 +175,7 @@ fn events() {
     );
     text(b"all kinds\n");
     show_script(
-        b"\x01\x04\x10\x02\x01\x02\x03\x03\x36\x01\x04\x05\x06\x09\x64\x07\x08\x02\x20\x09\x0A\x05\x0B\x00\x04\x08\x0B\x01\x02\x03\x0B\x02\x02\x08\x0B\x07\x02\x08\x0C\x36",
+        b"\x01\x04\x10\x02\x01\x02\x03\x03\x36\x01\x04\x05\x06\x09\x64\x07\x08\x02\x20\x09\x0A\x05\x0B\x00\x04\x08\x0B\x01\x02\x03\x0B\x02\x02\x08\x0B\x07\x02\x08\x0C\x36\x0D\xFF\xFF\xFF\xFF\x0F",
     );
     text(b"broken\n");
     show_script(b"\x00");
@@ -182,6 +183,9 @@ fn events() {
     show_script(b"\x0C");
     show_script(b"\x0C\x80\x00");
     show_script(b"\x8C\x00");
+    show_script(b"\x0D");
+    show_script(b"\x0D\xFF\xFF\xFF\xFF\x1F");
+    show_script(b"\x8D\x00\x00");
     show_script(b"\xFF\xFF\xFF\xFF\x0F");
     show_script(b"\x05\x02\x04");
     show_script(b"\x05\x0B\x00\x04\x80\x00");
@@ -201,6 +205,9 @@ fn main() {
     write(0, Event::Access(AccessKind::Other(1), 4, 16384));
     write(5, Event::Lost(239));
     write(6, Event::Lost(239));
+    write(0, Event::Skip(0));
+    write(2, Event::Skip(4294967295));
+    write(3, Event::Skip(4294967295));
     long();
     longest();
 }

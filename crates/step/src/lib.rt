@@ -64,5 +64,6 @@ pub fn act(
             access::access(core, limit, script::access_number(kind), width, address)
         }
         Event::Lost(line) => pulses::lost(chip, lost, core, line),
+        Event::Skip(count) => lines::ticks::skip(pending, core, count),
     }
 }

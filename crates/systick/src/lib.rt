@@ -1,5 +1,8 @@
 // SysTick: a 24-bit counter that falls by one a tick, and its registers STCTRL, STRELOAD and STCURRENT.
 ghost use mathlib.Core.Path.{_≡_};
+ghost use mathlib.Core.Bool.{true};
+ghost use Rattle.systick.specs.Skip.{skipOf};
+ghost use Rattle.systick.specs.ClosedForm.{fromZero, fallsIn, leaving};
 ghost use Rattle.systick.specs.Timer.{freshTimer, steady, tickOf, readControl, readReload, readCurrent, writeControl, writeReload, writeCurrent, soundTimer};
 
 pub struct Timer {
@@ -22,6 +25,31 @@ pub struct Ticked {
 pub struct TimerRead {
     pub value: u32,
     pub timer: Timer,
+}
+
+// The current value so many ticks after it was 0. It is 0 again every reload + 1 ticks.
+fn from_zero(reload: u32, ticks: u32) -> u32
+    ensures { λ r. ⌜ r ≡ fromZero reload ticks ⌝ }
+{
+    let period = reload as u64 + 1;
+    let over = ticks as u64 % period;
+    if over == 0 {
+        return 0;
+    }
+    (period - over) as u32
+}
+
+// Whether ticks that bring the current value down to 0 and go on for so many more fall to 0.
+fn falls_in(current: u32, reload: u32, more: u32) -> bool
+    ensures { λ r. ⌜ r ≡ fallsIn current reload more ⌝ }
+{
+    if 0 < current {
+        return true;
+    }
+    if reload == 0 {
+        return false;
+    }
+    reload < more
 }
 
 impl Timer {
@@ -47,6 +75,20 @@ impl Timer {
         }
     }
 
+    // A fall to 0, and the current value after it.
+    fn fallen(mut self, current: u32) -> Ticked
+        ensures { λ r. ⌜ r ≡ leaving true current self ⌝ }
+    {
+        let pends = self.control / 2 % 2 == 1;
+        self.current = current;
+        self.count = true;
+        Ticked {
+            timer: self,
+            fell: true,
+            pends,
+        }
+    }
+
     pub fn tick(mut self) -> Ticked
         ensures { λ r. ⌜ r ≡ tickOf self ⌝ }
     {
@@ -58,16 +100,29 @@ impl Timer {
             return self.steady();
         }
         if self.current == 1 {
-            let pends = self.control / 2 % 2 == 1;
-            self.current = 0;
-            self.count = true;
-            return Ticked {
-                timer: self,
-                fell: true,
-                pends,
-            };
+            return self.fallen(0);
         }
         self.current = self.current - 1;
+        self.steady()
+    }
+
+    // So many ticks, without stepping through them: those that bring the current value down to 0, then whole periods and a rest.
+    pub fn skip(mut self, ticks: u32) -> Ticked
+        ensures { λ r. ⌜ r ≡ skipOf ticks self ⌝ }
+    {
+        if self.control % 2 != 1 {
+            return self.steady();
+        }
+        if ticks < self.current {
+            self.current = self.current - ticks;
+            return self.steady();
+        }
+        let more = ticks - self.current;
+        let current = from_zero(self.reload, more);
+        if falls_in(self.current, self.reload, more) {
+            return self.fallen(current);
+        }
+        self.current = current;
         self.steady()
     }
 

@@ -114,6 +114,12 @@ enum-known-event-8 c = search needs
 lost-requires : tie.Need-lost-requires
 lost-requires c κs = search needs
 
+enum-known-event-9 : tie.Need-enum-known-event-9
+enum-known-event-9 c = search needs
+
+skip-requires : tie.Need-skip-requires
+skip-requires c κs = search needs
+
 same-length : tie.Need-same-length
 same-length c = search needs
 
@@ -287,6 +293,15 @@ returns-12 c =
     let s = begun (e .before .before) in
     c .lost2 .ensures (before s) ∙ acts s (e .event8 .given .1)
 
+same-length-32 : tie.Need-same-length-32
+same-length-32 c = search needs
+
+returns-13 : tie.Need-returns-13
+returns-13 c =
+    let e = c .before .before .before .before .before in
+    let s = begun (e .before .before) in
+    c .before .before .skip .ensures (before s) ∙ acts s (e .event9 .given .1)
+
 pub act-spec : {M : Type 1} → statement M
 act-spec =
     tie.close
@@ -316,6 +331,8 @@ act-spec =
     access-requires
     enum-known-event-8
     lost-requires
+    enum-known-event-9
+    skip-requires
     same-length
     same-length-2
     same-length-3
@@ -358,4 +375,6 @@ act-spec =
     returns-10
     returns-11
     same-length-31
-    returns-12)
+    returns-12
+    same-length-32
+    returns-13)

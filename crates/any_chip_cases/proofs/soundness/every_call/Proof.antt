@@ -1,4 +1,4 @@
--- A turn for each of the thirteen.
+-- A turn for each of the fourteen.
 use Prim.Native.Nat.{_≤_, _-_}
 use native.Mathlib.Omega.{arith}
 use borrow.Author.Needs.{needs}
@@ -6,10 +6,10 @@ use Rattle.any_chip_cases.proofs.soundness.every_call.Statement.{statem
 use Rattle.any_chip_cases.proofs.soundness.every_call.Tie as tie
 
 abbrev Inv-loop : tie.InvT-loop
-Inv-loop s call₀ call = call ≤ 13
+Inv-loop s call₀ call = call ≤ 14
 
 abbrev μ-loop : tie.MeasureT-loop
-μ-loop s call₀ call = 13 - call
+μ-loop s call₀ call = 14 - call
 
 loop-holds : tie.Need-loop-holds Inv-loop μ-loop
 loop-holds c = omega arith

@@ -20,10 +20,14 @@ returns-2 : tie.Need-returns-2
 unfolding tickOf
 returns-2 c = c .steady2 .ensures ∙ simp (eq-eqb _ _ (c .before .before .before .if1 .left), eq-eqb _ _ (c .before .if2 .taken))
 
+fallen-requires : tie.Need-fallen-requires
+fallen-requires c κs = search needs
+
 returns-3 : tie.Need-returns-3
 unfolding tickOf
 returns-3 c =
-    simp (
+    c .fallen .ensures
+    ∙ simp (
       eq-eqb _ _ (c .before .before .before .before .before .if1 .left),
       ne-eqb _ _ (c .before .before .before .if2 .left),
       eq-eqb _ _ (c .before .if3 .taken),
@@ -54,6 +58,7 @@ tick-spec =
     returns
     steady-requires-2
     returns-2
+    fallen-requires
     returns-3
     sub-self
     steady-requires-3
