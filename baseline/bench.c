@@ -10,16 +10,19 @@
 
 enum { FLAGS = 256, NEST = 248 }; /* of the chip with 240 lines; the other uses the first places */
 
-typedef struct { int lines, bits; } Setup; /* which chip: its lines, and how many of the top bits of a priority byte it keeps */
+enum { PMSAV7, PMSAV8 }; /* the guards */
+
+typedef struct { int lines, bits, guard; } Setup; /* which chip: its lines, how many of a priority byte's top bits it keeps, its guard */
 
 typedef struct {
     uint8_t pending[FLAGS], active[FLAGS], enabled[FLAGS], level[FLAGS], priority[FLAGS], nest[NEST];
     uint16_t lost[FLAGS]; /* the rises that found the line pending, held at 65,535 */
-    int lines, depth;
+    int lines, guard, depth;
     uint32_t kept; /* the bits of a priority byte and of BASEPRI that the chip keeps */
     uint32_t group, basepri, primask, faultmask, npriv, spsel;
     uint32_t st_control, st_reload, st_current, st_count;
-    uint32_t mpu_control, mpu_region, mpu_base[8], mpu_attributes[8];
+    uint32_t mpu_control, mpu_region, mpu_plain[2];
+    uint32_t mpu_base[8], mpu_attributes[8]; /* with PMSAv8 the word of the first block and the word of the last */
     uint32_t vtable, sysctrl, cfgctrl, faultstat, hfaultstat, mmaddr, faultaddr;
 } Model;
 
@@ -31,6 +34,7 @@ static Answer done(uint32_t v) { return (Answer){0, v}; }
 static void fresh(Model *m, Setup setup) {
     memset(m, 0, sizeof *m);
     m->lines = setup.lines;
+    m->guard = setup.guard;
     m->kept = 0xFF & ~(0xFFu >> setup.bits);
     m->cfgctrl = 0x200;
 }
@@ -38,6 +42,10 @@ static void fresh(Model *m, Setup setup) {
 static int flags(const Model *m) { return 16 + m->lines; }
 
 static uint32_t vtable_mask(const Model *m) { return m->lines == 240 ? 0x3FFFFC00 : 0x3FFFFE00; }
+
+static uint32_t base_mask(const Model *m) { return m->guard == PMSAV8 ? 0xFFFFFFFF : 0xFFFFFFE0; }
+
+static uint32_t attributes_mask(const Model *m) { return m->guard == PMSAV8 ? 0xFFFFFFEF : 0x173FFF3F; }
 
 static int full(const Model *m, int n) { return n == 2 ? -2 : n == 3 ? -1 : m->priority[n]; }
 
@@ -68,9 +76,15 @@ static uint32_t top(const Model *m) { return m->depth ? m->nest[m->depth - 1] : 
 
 typedef enum { MISSING, ICTYPE, STCTRL, STRELOAD, STCURRENT, ENABLE_SET, ENABLE_CLEAR, PENDING_SET, PENDING_CLEAR, ACTIVE, BYTES,
     CPUID, INTCTRL, VTABLE, APINT, SYSCTRL, CFGCTRL, SYSHNDCTRL, FAULTSTAT, HFAULTSTAT, MMADDR, FAULTADDR, SWTRIG,
-    MPU_TYPE, MPU_CONTROL, MPU_NUMBER, MPU_BASE, MPU_ATTRIBUTES } Register;
+    MPU_TYPE, MPU_CONTROL, MPU_NUMBER, MPU_BASE, MPU_ATTRIBUTES, MPU_PLAIN } Register;
 
-/* The register of the word at `a`; of a register of lines or of bytes also the first exception number that it shows. */
+/* The region of one of the four pairs of registers from ED9C on. With PMSAv7 the last three repeat the first. */
+static int region_of(const Model *m, uint32_t pair) {
+    return (int)(m->guard == PMSAV8 && pair ? (m->mpu_region & ~3u) | pair : m->mpu_region);
+}
+
+/* The register of the word at `a`; of a register of lines or of bytes also the first exception number that it shows, of one of a region
+ * the region's number, of a plain word which of the two it is. */
 static Register register_at(const Model *m, uint32_t a, int *first) {
     static const Register banks[5] = {ENABLE_SET, ENABLE_CLEAR, PENDING_SET, PENDING_CLEAR, ACTIVE};
     uint32_t line = (a % 0x80) * 8;
@@ -100,8 +114,9 @@ static Register register_at(const Model *m, uint32_t a, int *first) {
     case 0xE000ED90: return MPU_TYPE;
     case 0xE000ED94: return MPU_CONTROL;
     case 0xE000ED98: return MPU_NUMBER;
-    case 0xE000ED9C: case 0xE000EDA4: case 0xE000EDAC: case 0xE000EDB4: return MPU_BASE;
-    case 0xE000EDA0: case 0xE000EDA8: case 0xE000EDB0: case 0xE000EDB8: return MPU_ATTRIBUTES;
+    case 0xE000ED9C: case 0xE000EDA4: case 0xE000EDAC: case 0xE000EDB4: *first = region_of(m, (a - 0xE000ED9C) / 8); return MPU_BASE;
+    case 0xE000EDA0: case 0xE000EDA8: case 0xE000EDB0: case 0xE000EDB8: *first = region_of(m, (a - 0xE000EDA0) / 8); return MPU_ATTRIBUTES;
+    case 0xE000EDC0: case 0xE000EDC4: *first = (int)(a - 0xE000EDC0) / 4; return m->guard == PMSAV8 ? MPU_PLAIN : MISSING;
     case 0xE000EF00: return SWTRIG;
     }
     return MISSING;
@@ -149,8 +164,9 @@ static uint32_t read_register(Model *m, Register r, int first) {
     case MPU_TYPE: return 0x800;
     case MPU_CONTROL: return m->mpu_control;
     case MPU_NUMBER: return m->mpu_region;
-    case MPU_BASE: return m->mpu_base[m->mpu_region] | m->mpu_region;
-    case MPU_ATTRIBUTES: return m->mpu_attributes[m->mpu_region];
+    case MPU_BASE: return m->guard == PMSAV8 ? m->mpu_base[first] : m->mpu_base[first] | m->mpu_region;
+    case MPU_ATTRIBUTES: return m->mpu_attributes[first];
+    case MPU_PLAIN: return m->mpu_plain[first];
     case SWTRIG: case MISSING: return 0;
     }
     return 0;
@@ -192,10 +208,11 @@ static void write_register(Model *m, Register r, int first, uint32_t v) {
     case MPU_CONTROL: m->mpu_control = v & 7; break;
     case MPU_NUMBER: if (v <= 7) m->mpu_region = v; break;
     case MPU_BASE:
-        if (v & 16) { if ((v & 15) > 7) break; m->mpu_region = v & 15; }
-        m->mpu_base[m->mpu_region] = v & ~31u;
+        if (m->guard == PMSAV7 && v & 16) { if ((v & 15) > 7) break; m->mpu_region = v & 15; first = v & 15; }
+        m->mpu_base[first] = v & base_mask(m);
         break;
-    case MPU_ATTRIBUTES: m->mpu_attributes[m->mpu_region] = v & 0x173FFF3F; break;
+    case MPU_ATTRIBUTES: m->mpu_attributes[first] = v & attributes_mask(m); break;
+    case MPU_PLAIN: m->mpu_plain[first] = v; break;
     default: break;
     }
 }
@@ -332,19 +349,45 @@ static int matches(uint32_t base, uint32_t attributes, uint32_t a) {
     return size < 7 || !(attributes >> (8 + (a >> (size - 2) & 7)) & 1);
 }
 
-static int allows(uint32_t attributes, uint32_t kind, int priv) {
-    static const char *const rights[8] = {"00", "30", "31", "33", "00", "10", "11", "11"}; /* bit 0 read, bit 1 write */
-    int r = rights[attributes >> 24 & 7][priv ? 0 : 1] - '0';
+static int covers(uint32_t first, uint32_t last, uint32_t a) { return (last & 1) && first >> 5 <= a >> 5 && a >> 5 <= last >> 5; }
+
+static int allows(const char *rights, uint32_t no_fetch, uint32_t kind, int priv) {
+    int r = rights[priv ? 0 : 1] - '0'; /* bit 0 read, bit 1 write */
     if (kind == 1) return r >> 1 & 1;
-    return (r & 1) && !(kind == 2 && attributes >> 28 & 1);
+    return (r & 1) && !(kind == 2 && no_fetch);
+}
+
+enum { FAULT, ALLOWED, NO_REGION };
+
+/* PMSAv7: the highest-numbered region that matches decides. */
+static int regions_7(const Model *m, uint32_t kind, uint32_t a) {
+    static const char *const rights[8] = {"00", "30", "31", "33", "00", "10", "11", "11"};
+    for (int n = 7; n >= 0; n--) {
+        uint32_t attributes = m->mpu_attributes[n];
+        if (matches(m->mpu_base[n], attributes, a)) return allows(rights[attributes >> 24 & 7], attributes >> 28 & 1, kind, privileged(m));
+    }
+    return NO_REGION;
+}
+
+/* PMSAv8: the region that covers the address decides, if it is the only one. Not inlined: the code around it would be slower. */
+static __attribute__((noinline)) int regions_8(const Model *m, uint32_t kind, uint32_t a) {
+    static const char *const rights[4] = {"30", "33", "10", "11"};
+    int verdict = NO_REGION;
+    for (int n = 0; n < 8; n++) {
+        uint32_t first = m->mpu_base[n];
+        if (!covers(first, m->mpu_attributes[n], a)) continue;
+        if (verdict != NO_REGION) return FAULT;
+        verdict = allows(rights[first >> 1 & 3], first & 1, kind, privileged(m));
+    }
+    return verdict;
 }
 
 static int permits(const Model *m, uint32_t kind, uint32_t a) {
     if (kind == 2 && a >= 0xE0000000) return 0;
     if (!(m->mpu_control & 1) || (a >= 0xE0000000 && a <= 0xE00FFFFF) || (!(m->mpu_control & 2) && execution(m) < 0))
         return default_allows(kind, a);
-    for (int n = 7; n >= 0; n--)
-        if (matches(m->mpu_base[n], m->mpu_attributes[n], a)) return allows(m->mpu_attributes[n], kind, privileged(m));
+    int verdict = m->guard == PMSAV8 ? regions_8(m, kind, a) : regions_7(m, kind, a);
+    if (verdict != NO_REGION) return verdict;
     return (m->mpu_control & 4) && privileged(m) && default_allows(kind, a);
 }
 
@@ -431,7 +474,8 @@ static int sound(const Model *m) {
     if (!sound_lists(m) || m->group > 7 || m->basepri & ~m->kept) return 0;
     if (m->st_control > 7 || m->st_reload > 0xFFFFFF || m->st_current > 0xFFFFFF) return 0;
     if (m->mpu_control > 7 || m->mpu_region > 7) return 0;
-    for (int i = 0; i < 8; i++) if (m->mpu_base[i] & 31 || m->mpu_attributes[i] & ~0x173FFF3Fu) return 0;
+    for (int i = 0; i < 8; i++) if (m->mpu_base[i] & ~base_mask(m) || m->mpu_attributes[i] & ~attributes_mask(m)) return 0;
+    if (m->guard == PMSAV7 && (m->mpu_plain[0] || m->mpu_plain[1])) return 0;
     return !(m->vtable & ~vtable_mask(m) || m->sysctrl & ~0x16u || m->cfgctrl & ~0x31Au || m->faultstat & ~0x030F8383u
         || m->hfaultstat & ~0x40000000u);
 }
@@ -493,16 +537,19 @@ static int decimal(const char *text) {
 
 /* What the words after the program's name say; 0 where one is unknown or given twice, or its value is missing or wrong. */
 static int words(int argc, char **argv, Setup *setup, long *times) {
-    *setup = (Setup){0, -1}; /* neither is given yet; 0 bits may be given */
+    *setup = (Setup){0, -1, -1}; /* none is given yet; 0 bits may be given */
     for (int i = 1; i < argc; i += 2) {
         const char *word = argv[i], *value = i + 1 < argc ? argv[i + 1] : "";
         if (!strcmp(word, "--lines") && !setup->lines && (!strcmp(value, "55") || !strcmp(value, "240"))) setup->lines = atoi(value);
         else if (!strcmp(word, "--bits") && setup->bits < 0 && decimal(value) >= 0) setup->bits = decimal(value);
+        else if (!strcmp(word, "--guard") && setup->guard < 0 && !strcmp(value, "pmsav7")) setup->guard = PMSAV7;
+        else if (!strcmp(word, "--guard") && setup->guard < 0 && !strcmp(value, "pmsav8")) setup->guard = PMSAV8;
         else if (!strcmp(word, "--times") && !*times && atol(value) > 0) *times = atol(value);
         else return 0;
     }
     if (!setup->lines) setup->lines = 55;
     if (setup->bits < 0) setup->bits = 3;
+    if (setup->guard < 0) setup->guard = PMSAV7;
     return 1;
 }
 
@@ -511,7 +558,7 @@ int main(int argc, char **argv) {
     Setup setup;
     long times = 0;
     if (!words(argc, argv, &setup, &times)) {
-        printf("usage: simulate [--lines 55|240] [--bits N]\n");
+        printf("usage: simulate [--lines 55|240] [--bits N] [--guard pmsav7|pmsav8]\n");
         return 0;
     }
     size_t n = fread(script, 1, sizeof script, stdin), bad = 0;

@@ -1,9 +1,10 @@
 """Random scripts of the events of documents 01 and 02, the same for the same seed: mostly sensible arguments, some out of range.
 
-A script is made for a chip of 55 or 240 lines and may be run on either, whatever it keeps of a priority byte. Those for 55 lines that keep
-no proviso, have no deep nest and are not about the memory guard, priorities near each other, lost pulses or idle time stay what they are,
-so that measurements can be compared. Counts of lost pulses (kind 12) are asked for only in the scripts about these, and time is skipped
-(kind 13) only in those about idle time.
+A script is made for a chip of 55 or 240 lines and may be run on either, whatever it keeps of a priority byte and whichever guard it has.
+Those for 55 lines that keep no proviso, have no deep nest and are not about the memory guard, regions of blocks, priorities near each
+other, lost pulses or idle time stay what they are, so that measurements can be compared. Counts of lost pulses (kind 12) are asked for only
+in the scripts about these, and time is skipped (kind 13) only in those about idle time. Scripts about priorities, pulses or idle time name
+no register of the guard and ask for no verdict.
 """
 import random
 
@@ -18,6 +19,8 @@ KINDS = {  # the rarer the NMI, the more of the lines is seen
 }
 EDGES = {55: [55], 240: [54, 55, 239, 240, 255, 256]}  # lines at the chips' ends, and past them
 PAST = [54, 55, 239, 240, 255, 256, 0xFFFFFFFF]  # the same, whatever the chip
+GUARD = range(0xE000ED90, 0xE000EDCC, 4)  # the registers of the newer guard, with EDBC and EDC8, which are none
+PLACES = [0x20000000] * 4 + [0, 0x40000000, 0x60000000, 0xA0000000, 0xE0000000, 0xE0100000]  # regions of blocks lie around them
 
 # What E4's proviso leaves out, first and last byte. The word at E434 reaches into the last of them.
 NOT_OLD = [(0xE000E004, 0xE000E004), *((b + 4, b + 0x1F) for b in BANKS), (0xE000E437, 0xE000E4EF), (0xE000ED08, 0xE000ED08)]
@@ -124,6 +127,76 @@ def guarded(r):
         yield from (r.choice([[7], [7], [4]]), [9], [8, 4, 0])
         yield from (access(r) for _ in range(4))
         yield [10, 0xFFFFFFF9]
+
+
+def block(r, place):
+    """The address of one of six blocks around the place, seldom of the first or the last of all."""
+    return r.choice([*(place + 32 * r.randrange(-3, 3) for _ in range(8)), 0, -32]) % 2**32
+
+
+def first_word(r, place):
+    """A region's first block with any rights, few without fetch. Bits 4:3 mean nothing; with the old guard bit 4 selects a region."""
+    return block(r, place) | r.choice([0, 0, 8, 16, 24]) | r.randrange(4) << 1 | r.choice([0, 0, 1])
+
+
+def last_word(r, place):
+    """A region's last block, which may be before the first, most enabled. Bit 4 is not kept, bits 3:1 mean nothing."""
+    return block(r, place) | r.choice([0, 0, r.randrange(16)]) << 1 | r.choice([1, 1, 1, 0])
+
+
+def by_pairs(r, place):
+    """A number is selected, at times one that there is not; then some of the four pairs are written, of a few only one of the words."""
+    yield [2, 4, 0xE000ED98, r.choice([*range(8), *range(8), 8, 0x100 | r.randrange(8), word(r)])]
+    for pair in r.sample(range(4), r.choice([1, 1, 2, 4])):
+        words = [[2, 4, 0xE000ED9C + 8 * pair, first_word(r, place)], [2, 4, 0xE000EDA0 + 8 * pair, last_word(r, place)]]
+        yield from r.choice([words, words, words, words[:1], words[1:]])
+
+
+def at_guard(r):
+    """A register of the guard is read, or one that holds no region is written; at times no whole word or no register, which is refused."""
+    plain, narrow = r.choice([0xE000EDC0, 0xE000EDC4]), [r.choice([1, 2]), r.choice(GUARD) + r.randrange(4)]
+    read, write = [1, 4, r.choice(GUARD)], [2, 4, r.choice([plain] * 3 + [0xE000ED90, 0xE000EDBC, 0xE000EDC8]), word(r)]
+    return r.choice([read, read, read, write, write, r.choice([[1, *narrow], [2, *narrow, word(r)]])])
+
+
+def at_edge(r, place):
+    """An access where a block near the place ends or begins, or inside it; seldom elsewhere, unaligned, or of a wrong kind or width."""
+    kind = r.choice([0, 0, 1, 1, 2, 2] * 4 + [3])
+    width = r.choice([2] * 20 + [1, 4] if kind == 2 else [1, 2, 4] * 10 + [3])
+    edge = r.choice([place] * 8 + PLACES) + 32 * r.randrange(-4, 5)
+    inside = r.choice([-width, -width, 0, 0, r.randrange(0, 32, width), r.randrange(0, 32, width), r.choice([-1, 1])])
+    return [11, kind, width, (edge + inside) % 2**32]
+
+
+def modes(r):
+    """Ways from privileged thread mode and back to it: none, unprivileged, into a handler, NMI or HardFault, under FAULTMASK or PRIMASK."""
+    control, back = [8, 4, r.randrange(2)], [[8, 4, 0], [10, 0xFFFFFFF9]]
+    return [
+        ([], []),
+        ([[8, 4, 1]], [[7], [9], *back]),
+        ([control, [7], [9]], back),
+        ([control, [4], [9]], back),
+        ([control, [6, 0, 0], [9]], back),
+        ([[8, 1, 1], control], [[4], [9], [8, 1, 0], *back]),
+        ([[8, 0, 1], control], [[4], [9], [8, 0, 0], *back]),
+    ]
+
+
+def covered(r):
+    """Verdicts on regions of blocks near each other, over and over, in other modes each time; then registers of the guard, often all."""
+    while True:
+        place = r.choice(PLACES)
+        for _ in range(r.choice([1, 2, 2, 4])):
+            yield from by_pairs(r, place)
+        yield [2, 4, 0xE000ED94, r.choice([1, 1, 3, 5, 5, 7, r.randrange(8), r.randrange(8)])]
+        for there, back in r.sample(modes(r), 3):
+            yield from there
+            yield from (at_edge(r, place) for _ in range(r.randrange(4, 12)))
+            yield from r.choice([[], [], [at_guard(r)]])
+            yield from back
+        yield from (at_guard(r) for _ in range(r.randrange(4)))
+        if r.randrange(2):
+            yield from ([2, 4, 0xE000ED98, r.randrange(8)], *([1, 4, address] for address in GUARD))
 
 
 def near(r, byte):
@@ -329,12 +402,17 @@ def events(r, lines, deep):
             yield shown(*one[1:])
 
 
-def script(seed, length, lines=55, old=False, deep=False, guard=False, bits=False, pulses=False, skips=False):
-    """At most `length` bytes of whole events; only those of an old script, with a deep nest first, or about the guard, priorities near
-    each other, lost pulses or idle time, if so asked."""
+def about(r, lines, deep=False, guard=False, blocks=False, bits=False, pulses=False, skips=False):
+    if guard or blocks:
+        return guarded(r) if guard else covered(r)
+    return prioritised(r, lines) if bits else pulsed(r, lines) if pulses else idle(r, lines) if skips else events(r, lines, deep)
+
+
+def script(seed, length, lines=55, old=False, **asked):
+    """At most `length` bytes of whole events; only those of an old script, with a deep nest first, or about the guard, regions of blocks,
+    priorities near each other, lost pulses or idle time, if so asked."""
     out, r = bytearray(), random.Random(seed)
-    about = guarded(r) if guard else prioritised(r, lines) if bits else pulsed(r, lines) if pulses else idle(r, lines) if skips else None
-    for one in about or events(r, lines, deep):
+    for one in about(r, lines, **asked):
         if old and not is_old(one):
             continue
         more = b"".join(number(n) for n in one)

@@ -3,6 +3,7 @@ ghost use mathlib.Core.Path.{_≡_};
 ghost use Rattle.rules.specs.Model.{Model, withCore};
 ghost use Rattle.rules.specs.Lent.{answer};
 ghost use Rattle.rules.specs.Access.{purposeOf, fitsAccess, accessAt};
+use mpu::Edition;
 use parts::accepted;
 use parts::is_privileged;
 use parts::refused;
@@ -31,9 +32,16 @@ fn purpose_of(kind: u32) -> Access
     }
 }
 
-// `limit` is the execution priority.
-pub fn access(core: Core, limit: i32, kind: u32, width: u32, address: u32) -> Outcome
-    ensures { λ r. ⌜ ((m : Model) → answer r m ≡ accessAt limit (withCore core m) kind width address) ⌝ }
+// `edition` is that of the chip's guard, `limit` the execution priority.
+pub fn access(
+    edition: Edition,
+    core: Core,
+    limit: i32,
+    kind: u32,
+    width: u32,
+    address: u32,
+) -> Outcome
+    ensures { λ r. ⌜ ((m : Model) → answer r m ≡ accessAt edition limit (withCore core m) kind width address) ⌝ }
 {
     if 2 < kind {
         return refused(core, 6);
@@ -42,7 +50,8 @@ pub fn access(core: Core, limit: i32, kind: u32, width: u32, address: u32) -> Ou
         if map::checks::is_aligned(address, width) {
             let guard = core.guard;
             let purpose = purpose_of(kind);
-            let verdict = verdicts::verdict(
+            let verdict = editions::verdict(
+                edition,
                 guard,
                 purpose,
                 address,

@@ -6,3 +6,4 @@ pub mod ComesAndGoes
 pub mod PriorityBits
 pub mod LostPulses
 pub mod IdleTime
+pub mod GuardEditions

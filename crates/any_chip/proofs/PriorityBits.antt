@@ -3,6 +3,7 @@ use Prim.Native.Nat.{ℕ, _≤_}
 use mathlib.Core.Path.{ap, _∙_}
 use mathlib.Core.List.{map}
 use lib.Dec.{T}
+use Rattle.mpu.specs.declared.Edition.{Edition}
 use Rattle.rules.specs.declared.Part.{Part}
 use Rattle.rules.specs.declared.Part.the-variants.{Lines55, Lines240}
 use Rattle.rules.specs.Chip.{partChip, chipOf, fits}
@@ -15,15 +16,15 @@ use Rattle.any_chip.specs.PriorityBits.{keeping, CodePriorityBits}
 use Rattle.any_chip.proofs.View.{view-laws}
 use Rattle.any_chip.proofs.Demand3.{called-fresh, code-demand3}
 
-setup-fits : (part : Part) (w : ℕ) → 3 ≤ w → w ≤ 8 → T (fits (chipOf (keeping part w)))
-setup-fits part w low high = from-3-to-8 (partChip part) w low high
+setup-fits : (part : Part) (guard : Edition) (w : ℕ) → 3 ≤ w → w ≤ 8 → T (fits (chipOf (keeping part guard w)))
+setup-fits part guard w low high = from-3-to-8 (partChip part) w low high
 
 pub code-priority-bits : CodePriorityBits
 code-priority-bits =
     record {
-      demand3 = λ part w low high. code-demand3 (keeping part w) (setup-fits part w low high);
-      most55 = λ w es rs t k. most-nested (chipOf (keeping Lines55 w)) es (map answer rs) (model t) (called-fresh (keeping Lines55 w) k);
-      most240 = λ w es rs t k. most-nested (chipOf (keeping Lines240 w)) es (map answer rs) (model t) (called-fresh (keeping Lines240 w) k);
+      demand3 = λ part guard w low high. code-demand3 (keeping part guard w) (setup-fits part guard w low high);
+      most55 = λ guard w es rs t k. most-nested (chipOf (keeping Lines55 guard w)) es (map answer rs) (model t) (called-fresh (keeping Lines55 guard w) k);
+      most240 = λ guard w es rs t k. most-nested (chipOf (keeping Lines240 guard w)) es (map answer rs) (model t) (called-fresh (keeping Lines240 guard w) k);
       refused = λ s z f e r q.
           q ∙ ap (reply (s .setup)) (misfit-first (chipOf (s .setup)) (model s) e f)
           ∙ ap (λ (t : State). record { refusal = 17; value = 0; vector = 0; link = 0; state = t }) (view-laws .back s z);

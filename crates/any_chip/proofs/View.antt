@@ -15,7 +15,7 @@ use Rattle.rules.specs.declared.Part.{Part}
 use Rattle.rules.specs.declared.Part.the-variants.{Lines55, Lines240}
 use Rattle.rules.specs.declared.Setup.{Setup}
 use Rattle.rules.specs.declared.Core.{Core}
-use Rattle.rules.specs.Chip.{partChip, withBits, chipOf, fits, flagCount, exceptionCount}
+use Rattle.rules.specs.Chip.{partChip, withBits, withEdition, chipOf, fits, flagCount, exceptionCount}
 use Rattle.rules.specs.Model.{Model, Answer, fresh, freshCore}
 use Rattle.rules.specs.Lent.{modelOf}
 use Rattle.rules.specs.Sound.{isSound, Sound}
@@ -36,7 +36,7 @@ use Rattle.places.proofs.Laws.{reach-fits, put, whole, free-byte, free-pending,
 pub few-lines : (s : Setup) → FewLines (chipOf s)
 few-lines s = few (s .part)
   where
-    few : (p : Part) → FewLines (withBits (s .bits) (partChip p))
+    few : (p : Part) → FewLines (withEdition (s .guard) (withBits (s .bits) (partChip p)))
     few Lines55 = record { lines = omega arith }
     few Lines240 = record { lines = omega arith }
 
@@ -60,7 +60,7 @@ lines-fit s = few-lines s .lines
 pub setup-blocks : (s : Setup) → Blocks (chipOf s)
 setup-blocks s = blocks (s .part)
   where
-    blocks : (p : Part) → Blocks (withBits (s .bits) (partChip p))
+    blocks : (p : Part) → Blocks (withEdition (s .guard) (withBits (s .bits) (partChip p)))
     blocks Lines55 = record { flags = inl (omega arith); nest = inl (omega arith); lost = inl (omega arith) }
     blocks Lines240 = record { flags = inr refl; nest = inr refl; lost = inr refl }
 

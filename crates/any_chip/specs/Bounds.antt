@@ -1,6 +1,7 @@
 -- How deep exceptions nest in what runs: `demand3` has the bounds of the rules' answers; here they are said of the replies.
 use Prim.Native.Nat.{ℕ}
 use mathlib.Core.List.{List, map}
+use Rattle.mpu.specs.declared.Edition.the-variants.{Pmsav7}
 use Rattle.script.specs.declared.Event.{Event}
 use Rattle.rules.specs.declared.Part.the-variants.{Lines55, Lines240}
 use Rattle.rules.specs.declared.Setup.{Setup}
@@ -18,6 +19,6 @@ Bounded setup bare =
 
 pub record CodeBounded : Type 0 where
   -- "at most 63 are nested"
-  pub lines55 : Bounded (record { part = Lines55; bits = 3 }) 63
+  pub lines55 : Bounded (record { part = Lines55; bits = 3; guard = Pmsav7 }) 63
   -- document 02, E4: "In demand 3 the bare bound becomes 248 for this chip."
-  pub lines240 : Bounded (record { part = Lines240; bits = 3 }) 248
+  pub lines240 : Bounded (record { part = Lines240; bits = 3; guard = Pmsav7 }) 248

@@ -6,11 +6,16 @@ use super::show::looked;
 use super::show::text;
 use super::show::told;
 use any_chip::State;
+use mpu::Edition;
 use rules::Part;
 use rules::Setup;
 
 pub fn chip(part: Part) -> State {
-    State::fresh(Setup { part, bits: 3 })
+    State::fresh(Setup {
+        part,
+        bits: 3,
+        guard: Edition::Pmsav7,
+    })
 }
 
 // A word is written.

@@ -4,6 +4,7 @@ use super::show::looked;
 use super::soundness::tried;
 use super::soundness::unsound;
 use any_chip::State;
+use mpu::Edition;
 use rules::Part;
 use rules::Setup;
 
@@ -11,6 +12,7 @@ fn keeping(bits: u32) -> State {
     State::fresh(Setup {
         part: Part::Lines55,
         bits,
+        guard: Edition::Pmsav7,
     })
 }
 

@@ -81,6 +81,16 @@ fn poked_timer(mut t: Timer, field: u32, v: u32) -> Timer {
     t
 }
 
+// MAIR0 or MAIR1.
+fn poked_plain(mut g: Mpu, i: u32, v: u32) -> Mpu {
+    if i == 0 {
+        g.mair0 = v;
+        return g;
+    }
+    g.mair1 = v;
+    g
+}
+
 fn poked_guard(mut g: Mpu, field: u32, i: u32, v: u32) -> Mpu {
     let n = i as usize;
     if 8 <= n {
@@ -91,6 +101,7 @@ fn poked_guard(mut g: Mpu, field: u32, i: u32, v: u32) -> Mpu {
         0x72656769 => g.region = v, // regi
         0x72626173 => g.bases[n] = v, // rbas
         0x61747472 => g.attributes[n] = v, // attr
+        0x6d616972 => return poked_plain(g, i, v), // mair
         _ => {}
     }
     g

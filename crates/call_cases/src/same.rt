@@ -50,6 +50,12 @@ fn same_guard(g: Mpu, h: Mpu) -> bool {
     if g.region != h.region {
         return false;
     }
+    if g.mair0 != h.mair0 {
+        return false;
+    }
+    if g.mair1 != h.mair1 {
+        return false;
+    }
     same_regions(g, h)
 }
 

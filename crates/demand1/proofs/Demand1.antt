@@ -141,7 +141,7 @@ module _ (c : Chip) (m : Model) where
   unfolding returnCall
   return-fine v = by-cases (Fine (event.Return v)) (linkFits (m .core .depth) v) (λ _. inl refl) (λ _. inr (record { number = tt; nothing = refl }))
 
-  access-fine : (k w a : ℕ) (e : Event) → ownRefusals e ≡ 6 ∷ 1 ∷ 2 ∷ [] → Fine e (accessCall m k w a)
+  access-fine : (k w a : ℕ) (e : Event) → ownRefusals e ≡ 6 ∷ 1 ∷ 2 ∷ [] → Fine e (accessCall c m k w a)
   unfolding accessAt
   access-fine k w a e q =
       by-cases (Fine e) (ltb 2 k) (λ _. inr (record { number = rw q tt; nothing = refl }))

@@ -213,7 +213,7 @@ of-sound c m t =
         group = ltb→lt (m .core .group) 8 (search (and-l, and-r) depth 12);
         basepri = eqb→eq (keptByte (c .bits) (m .core .masks .basepri)) (m .core .masks .basepri) (search (and-l, and-r) depth 12);
         timer = of-sound-timer (m .core .timer) (search (and-l, and-r) depth 12);
-        guard = of-sound-mpu (m .core .guard) (search (and-l, and-r) depth 12);
+        guard = of-sound-mpu (c .guard) (m .core .guard) (search (and-l, and-r) depth 12);
         system = of-system c (m .core .system) (search (and-l, and-r) depth 12);
       };
     }

@@ -72,7 +72,7 @@ module _ {c : Chip} {m t : Model} (q : Quiet c m t) where
   pub put-timer : {x : Timer} → SoundTimer x → Quiet c m (withTimer x t)
   put-timer f = let h = q .sound .core in put-core (record { group = h .group; basepri = h .basepri; timer = f; guard = h .guard; system = h .system }) refl
 
-  pub put-guard : {x : Mpu} → SoundMpu x → Quiet c m (withGuard x t)
+  pub put-guard : {x : Mpu} → SoundMpu (c .guard) x → Quiet c m (withGuard x t)
   put-guard f = let h = q .sound .core in put-core (record { group = h .group; basepri = h .basepri; timer = h .timer; guard = f; system = h .system }) refl
 
   pub put-system : {x : System} → SoundSystem c x → Quiet c m (withSystem x t)

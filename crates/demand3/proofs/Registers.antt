@@ -13,8 +13,8 @@ use Rattle.systick.specs.declared.Timer.{Timer}
 use Rattle.systick.specs.Timer.{SoundTimer}
 use Rattle.mpu.specs.declared.MpuRegister.{MpuRegister}
 use Rattle.mpu.specs.declared.MpuRegister.the-variants as mpu
-use Rattle.mpu.specs.Registers.{mpuRegisterAt}
-use Rattle.mpu.specs.Laws.{write-mpu-sound}
+use Rattle.mpu.specs.Editions.{guardRegisterAt, belongs}
+use Rattle.mpu.specs.Laws.{map-belongs, write-mpu-sound}
 use Rattle.rules.specs.declared.TimerRegister.{TimerRegister}
 use Rattle.rules.specs.declared.TimerRegister.the-variants.{Stctrl, Streload, Stcurrent}
 use Rattle.rules.specs.declared.Bank.{Bank}
@@ -39,42 +39,46 @@ use Rattle.rules.specs.Laws.{is-line, line-stands}
 use Rattle.demand3.proofs.Parts.{flags-set, flags-put, bytes-set}
 use Rattle.demand3.proofs.Quiet.{Quiet, stay, put-pending, put-enabled, put-priority, put-group, put-timer, put-guard, put-system}
 
--- ---- a word of flags starts at a line
+-- ---- a word of flags starts at a line, and a register of the MPU is one of the chip's guard
 
-unfoldable atLine : Register → Bool
-atLine reg.Missing = true
-atLine (reg.Timer r) = true
-atLine (reg.Flags b n) = leb 16 n
-atLine (reg.Priority n) = true
-atLine (reg.System r) = true
-atLine (reg.Guard r) = true
+unfoldable own : Chip → Register → Bool
+own c reg.Missing = true
+own c (reg.Timer r) = true
+own c (reg.Flags b n) = leb 16 n
+own c (reg.Priority n) = true
+own c (reg.System r) = true
+own c (reg.Guard r) = belongs (c .guard) r
 
 flags-at : (base a : ℕ) → T (leb 16 (firstFlag base a))
 flags-at base a = le→leb 16 (firstFlag base a) (omega arith)
 
-guard-at : (r : MpuRegister) → T (atLine (guardRegister r))
-unfolding atLine
-guard-at mpu.Missing = tt
-guard-at mpu.Kind = tt
-guard-at mpu.Control = tt
-guard-at mpu.Number = tt
-guard-at mpu.Base = tt
-guard-at mpu.Attributes = tt
+guard-at : (c : Chip) (r : MpuRegister) → T (belongs (c .guard) r) → T (own c (guardRegister r))
+unfolding own
+guard-at c mpu.Missing t = tt
+guard-at c mpu.Kind t = t
+guard-at c mpu.Control t = t
+guard-at c mpu.Number t = t
+guard-at c mpu.Base t = t
+guard-at c mpu.Attributes t = t
+guard-at c (mpu.Rbar pair) t = t
+guard-at c (mpu.Rlar pair) t = t
+guard-at c mpu.Mair0 t = t
+guard-at c mpu.Mair1 t = t
 
-block-at : (c : Chip) (a : ℕ) → T (atLine (blockRegister c a))
-unfolding atLine blockRegister
+block-at : (c : Chip) (a : ℕ) → T (own c (blockRegister c a))
+unfolding own blockRegister
 block-at c a =
-    either-way atLine (inBlock 0xE000E100 (flagWords c) a) _ _ (flags-at 0xE000E100 a)
-    (either-way atLine (inBlock 0xE000E180 (flagWords c) a) _ _ (flags-at 0xE000E180 a)
-    (either-way atLine (inBlock 0xE000E200 (flagWords c) a) _ _ (flags-at 0xE000E200 a)
-    (either-way atLine (inBlock 0xE000E280 (flagWords c) a) _ _ (flags-at 0xE000E280 a)
-    (either-way atLine (inBlock 0xE000E300 (flagWords c) a) _ _ (flags-at 0xE000E300 a)
-    (either-way atLine (inBlock 0xE000E400 (byteWords c) a) _ _ tt
-    (either-way atLine (inBlock 0xE000ED90 11 a) _ _ (guard-at (mpuRegisterAt (a - 0xE000ED90))) tt))))))
+    either-way (own c) (inBlock 0xE000E100 (flagWords c) a) _ _ (flags-at 0xE000E100 a)
+    (either-way (own c) (inBlock 0xE000E180 (flagWords c) a) _ _ (flags-at 0xE000E180 a)
+    (either-way (own c) (inBlock 0xE000E200 (flagWords c) a) _ _ (flags-at 0xE000E200 a)
+    (either-way (own c) (inBlock 0xE000E280 (flagWords c) a) _ _ (flags-at 0xE000E280 a)
+    (either-way (own c) (inBlock 0xE000E300 (flagWords c) a) _ _ (flags-at 0xE000E300 a)
+    (either-way (own c) (inBlock 0xE000E400 (byteWords c) a) _ _ tt
+    (either-way (own c) (inBlock 0xE000ED90 14 a) _ _ (guard-at c (guardRegisterAt (c .guard) (a - 0xE000ED90)) (map-belongs (c .guard) (a - 0xE000ED90))) tt))))))
 
-register-at : (c : Chip) (a : ℕ) → T (atLine (registerAt c a))
-unfolding atLine registerAt
-register-at c a = search (either-way atLine, block-at) depth 30
+register-at : (c : Chip) (a : ℕ) → T (own c (registerAt c a))
+unfolding own registerAt
+register-at c a = search (either-way (own c), block-at) depth 30
 
 -- ---- the flags, the bytes and the system block
 
@@ -174,14 +178,14 @@ module _ {c : Chip} {m : Model} (h : Sound c m) where
   system-quiet Mmaddr v = stay h
   system-quiet Faultaddr v = stay h
 
-  word-quiet : (r : Register) (v : ℕ) → T (atLine r) → Quiet c m (wordWritten c r v m)
-  unfolding wordWritten atLine
+  word-quiet : (r : Register) (v : ℕ) → T (own c r) → Quiet c m (wordWritten c r v m)
+  unfolding wordWritten own
   word-quiet reg.Missing v t = stay h
   word-quiet (reg.Timer r) v t = put-timer (stay h) (timer-sound r v (m .core .timer) (h .core .timer))
   word-quiet (reg.Flags b n) v t = bank-quiet b n v (leb→le 16 n t)
   word-quiet (reg.Priority n) v t = put-priority (stay h) (bytes-written c n v (m .priority) (h .priority))
   word-quiet (reg.System r) v t = system-quiet r v
-  word-quiet (reg.Guard r) v t = put-guard (stay h) (write-mpu-sound r v (m .core .guard) (h .core .guard))
+  word-quiet (reg.Guard r) v t = put-guard (stay h) (write-mpu-sound (c .guard) r v (m .core .guard) t (h .core .guard))
 
   byte-quiet : (r : Register) (lane v : ℕ) → Quiet c m (byteWritten c r lane v m)
   unfolding byteWritten

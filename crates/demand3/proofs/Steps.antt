@@ -51,7 +51,7 @@ quiet : {c : Chip} {m : Model} (e : Event) {a : Answer} → moved e a (stack m) 
 quiet {m = m} e {a = a} k q = record { sound = q .sound; recorded = k ∙ sym (q .kept); rising = still m (a .next) (q .kept) }
 
 module _ {c : Chip} {m : Model} (h : Sound c m) where
-  access-quiet : (k w a : ℕ) → Quiet c m (accessCall m k w a .next)
+  access-quiet : (k w a : ℕ) → Quiet c m (accessCall c m k w a .next)
   unfolding accessAt
   access-quiet k w a =
       by-cases (λ (x : Answer). Quiet c m (x .next)) (ltb 2 k) (λ _. stay h)
@@ -124,7 +124,7 @@ sound-fresh c =
         group = omega arith;
         basepri = kept-byte-zero (c .bits);
         timer = timer.fresh-sound;
-        guard = mpu.fresh-sound;
+        guard = mpu.fresh-sound (c .guard);
         system = record { vtable = fresh-vtable c; sysctrl = refl; cfgctrl = refl; faultstat = refl; hfaultstat = refl };
       };
     }

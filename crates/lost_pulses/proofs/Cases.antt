@@ -8,6 +8,7 @@ use Rattle.flag_words.specs.Flags as flags
 use Rattle.priority.specs.Priority as priority
 use Rattle.systick.specs.Timer as timer
 use Rattle.mpu.specs.Registers as mpu
+use Rattle.mpu.specs.Editions as editions
 use Rattle.mpu.specs.Soundness as guard
 use Rattle.rules.specs.Model as model
 use Rattle.rules.specs.Priorities as priorities
@@ -20,5 +21,5 @@ use Rattle.rules.specs.Registers as registers
 use Rattle.rules.specs.Step as step
 
 pub cases-hold : Holds cases
-unfolding cases bits.without flags.wordOf flags.putFlag flags.putFlags priority.leastActive priority.executionPriority priority.best priority.bestPending timer.soundTimer mpu.freshMpu mpu.keptBase mpu.keptAttributes guard.regionKept guard.soundMpu model.fresh priorities.execution every.every sound.flagSound sound.byteSound sound.countSound sound.nestedSound sound.unusedSound sound.soundNest sound.soundFlags sound.soundSystem sound.isSized sound.isSound events.levelled events.losesRise events.oneMore events.counted events.lineCall events.lostCall events.controlWritten events.specialWritten events.specialAt nesting.entered nesting.entryAt nesting.linkFits nesting.returnedMasks nesting.repended nesting.returned nesting.returnCall addresses.blockRegister addresses.registerAt addresses.widthRefusal writes.clearable writes.bankWritten writes.wordWritten registers.accessRefusal registers.written registers.writeCall step.guarded step.admitted
+unfolding cases bits.without flags.wordOf flags.putFlag flags.putFlags priority.leastActive priority.executionPriority priority.best priority.bestPending timer.soundTimer mpu.freshMpu mpu.keptBase mpu.keptAttributes editions.guardRegisterAt editions.keptFirst editions.keptSecond editions.keptPlain guard.regionKept guard.plainKept guard.soundMpu model.fresh priorities.execution every.every sound.flagSound sound.byteSound sound.countSound sound.nestedSound sound.unusedSound sound.soundNest sound.soundFlags sound.soundSystem sound.isSized sound.isSound events.levelled events.losesRise events.oneMore events.counted events.lineCall events.lostCall events.controlWritten events.specialWritten events.specialAt nesting.entered nesting.entryAt nesting.linkFits nesting.returnedMasks nesting.repended nesting.returned nesting.returnCall addresses.blockRegister addresses.registerAt addresses.widthRefusal writes.clearable writes.bankWritten writes.wordWritten registers.accessRefusal registers.written registers.writeCall step.guarded step.admitted
 cases-hold = (refl, (refl, (refl, (refl, (refl, (refl, (refl, (refl, (refl, (refl, (refl, (refl, (refl, (refl, (refl, (refl, (refl, (refl, (refl, (refl, tt))))))))))))))))))))

@@ -3,7 +3,7 @@ ghost use mathlib.Core.Path.{_≡_};
 ghost use mathlib.Core.Bool.{cond};
 ghost use lib.Dec.{eqb};
 ghost use Prim.Native.Nat.{_+_, _-_, _^_, _<_, _≤_};
-ghost use Rattle.mpu.specs.Registers.{mpuRegisterAt};
+ghost use Rattle.mpu.specs.Editions.{guardRegisterAt};
 ghost use Rattle.rules.specs.declared.Register.the-variants.{Flags, Priority};
 ghost use Rattle.rules.specs.Map.{flagWords, byteWords, inBlock, firstFlag, guardRegister, blockRegister, registerAt, widthRefusal};
 
@@ -28,7 +28,7 @@ fn byte_words(chip: Chip) -> usize
     (chip.lines as usize + 3) / 4
 }
 
-// Whether a stands in the block of so many words from `base` on. The words are a chip's, whose lines fit 32 bits, or the MPU's 11.
+// Whether a stands in the block of so many words from `base` on. The words are a chip's, whose lines fit 32 bits, or the MPU's 14.
 fn in_block(base: u32, words: usize, a: u32) -> bool
     requires { ⌜ words < 2 ^ 32 ⌝ }
     ensures { λ r. ⌜ r ≡ inBlock base words a ⌝ }
@@ -57,6 +57,10 @@ fn guard_register(register: MpuRegister) -> Register
         MpuRegister::Number => Register::Guard(register),
         MpuRegister::Base => Register::Guard(register),
         MpuRegister::Attributes => Register::Guard(register),
+        MpuRegister::Rbar(_) => Register::Guard(register),
+        MpuRegister::Rlar(_) => Register::Guard(register),
+        MpuRegister::Mair0 => Register::Guard(register),
+        MpuRegister::Mair1 => Register::Guard(register),
     }
 }
 
@@ -79,11 +83,12 @@ fn bytes_or(chip: Chip, a: u32, otherwise: Register) -> Register
     otherwise
 }
 
-fn guard_or(a: u32, otherwise: Register) -> Register
-    ensures { λ r. ⌜ r ≡ cond (inBlock 0xE000ED90 11 a) (guardRegister (mpuRegisterAt (a - 0xE000ED90))) otherwise ⌝ }
+fn guard_or(chip: Chip, a: u32, otherwise: Register) -> Register
+    ensures { λ r. ⌜ r ≡ cond (inBlock 0xE000ED90 14 a) (guardRegister (guardRegisterAt (chip .guard) (a - 0xE000ED90))) otherwise ⌝ }
 {
-    if in_block(0xe000ed90, 11, a) {
-        return guard_register(mpu::register_at(a - 0xe000ed90));
+    if in_block(0xe000ed90, 14, a) {
+        let edition = chip.guard;
+        return guard_register(mpu::guard_register_at(edition, a - 0xe000ed90));
     }
     otherwise
 }
@@ -92,7 +97,7 @@ fn guard_or(a: u32, otherwise: Register) -> Register
 fn block_register(chip: Chip, a: u32) -> Register
     ensures { λ r. ⌜ r ≡ blockRegister chip a ⌝ }
 {
-    let guard = guard_or(a, Register::Missing);
+    let guard = guard_or(chip, a, Register::Missing);
     let bytes = bytes_or(chip, a, guard);
     let active = flags_or(chip, 0xe000e300, Bank::Active, a, bytes);
     let clear = flags_or(chip, 0xe000e280, Bank::PendingClear, a, active);

@@ -4,3 +4,4 @@ pub mod Bounds
 pub mod ComesAndGoes
 pub mod LostPulses
 pub mod IdleTime
+pub mod GuardEditions

@@ -5,6 +5,7 @@ ghost use Rattle.rules.specs.Model.{fresh, stack, depthOf, top};
 ghost use Rattle.rules.specs.Priorities.{execution};
 ghost use Rattle.rules.specs.Sound.{isSound};
 ghost use Rattle.model.specs.View.{model, state};
+use mpu::Edition;
 use rules::Chip;
 use rules::Core;
 
@@ -33,7 +34,11 @@ pub struct Reply {
 }
 
 // `chip55` of the rules.
-pub const CHIP: Chip = Chip { lines: 55, bits: 3 };
+pub const CHIP: Chip = Chip {
+    lines: 55,
+    bits: 3,
+    guard: Edition::Pmsav7,
+};
 
 impl State {
     pub fn fresh() -> Self

@@ -5,6 +5,7 @@ use native.Mathlib.Omega.{arith}
 use lib.Bits.{bitAnd, and-shr, and-mod, and-mask}
 use lib.Pow.{split}
 use Rattle.mpu.specs.Registers.{keptAttributes}
+use Rattle.mpu.specs.Pmsav8.{keptRlar}
 
 -- a mask, above and below bit k
 and-split : (k x m : ℕ) → bitAnd x m ≡ bitAnd (x / 2 ^ k) (m / 2 ^ k) * 2 ^ k + bitAnd (x % 2 ^ k) (m % 2 ^ k)
@@ -25,4 +26,13 @@ attribute-mask x =
     let b = and-mask (y / 2 ^ 24) 3 in
     let c = and-mask (z / 2 ^ 8) 14 in
     let d = and-mask (z % 2 ^ 8) 6 in
+    omega arith
+
+pub rlar-mask : (x : ℕ) → bitAnd x 0xFFFFFFEF ≡ keptRlar x
+unfolding keptRlar
+rlar-mask x =
+    let low : x % 2 ^ 5 % 2 ^ 4 ≡ x % 2 ^ 4 = omega arith in
+    let n = and-split 5 x 0xFFFFFFEF in
+    let a = and-mask (x / 2 ^ 5) 27 in
+    let b = and-mask (x % 2 ^ 5) 4 in
     omega arith

@@ -1,31 +1,50 @@
-// The MPU, a guard of eight regions, and its registers. What it allows is in `verdicts`.
+// The MPU, a guard of eight regions, in two editions, and its registers. What it allows is in `verdicts` and `editions`.
 ghost use mathlib.Core.Path.{_≡_};
 ghost use lib.ListN.{length, getD, set};
 ghost use Rattle.bools.specs.Every.{every};
 ghost use Rattle.mpu.specs.Registers.{freshMpu, mpuRegisterAt, keptBase, keptAttributes, readMpu, withControl, writeNumber, withBase, writeBase, withAttributes, writeMpu};
-ghost use Rattle.mpu.specs.Soundness.{regionKept, soundMpu};
+ghost use Rattle.mpu.specs.Pmsav8.{readRbar, readRlar, withRbar, withRlar, withMair0, withMair1};
+ghost use Rattle.mpu.specs.Editions.{guardRegisterAt, keptFirst, keptSecond, keptPlain};
+ghost use Rattle.mpu.specs.Soundness.{regionKept, plainKept, soundMpu};
 use bools::both;
+use pmsav8::kept_rlar;
+use pmsav8::region_of;
 
-// The registers' words; a base without its low five bits.
+mod pmsav8;
+
+// Which guard it is: ARMv7-M's, which document 01 describes, or ARMv8-M's (document 02, E12).
+pub enum Edition {
+    Pmsav7,
+    Pmsav8,
+}
+
+// The registers' words. A region has two: in PMSAv7 a base, without its low five bits, and attributes; in PMSAv8 RBAR, where the base
+// stands, and RLAR, where the attributes stand. MAIR0 and MAIR1 are PMSAv8's, and 0 in PMSAv7.
 pub struct Mpu {
     pub control: u32,
     pub region: u32,
     pub bases: [u32; 8],
     pub attributes: [u32; 8],
+    pub mair0: u32,
+    pub mair1: u32,
 }
 
-// Kind is the type register at ED90; Missing is no register.
+// Kind is the type register at ED90; Missing is no register. Rbar and Rlar have the number of their pair, 0 to 3.
 pub enum MpuRegister {
     Kind,
     Control,
     Number,
     Base,
     Attributes,
+    Rbar(u32),
+    Rlar(u32),
+    Mair0,
+    Mair1,
     Missing,
 }
 
-// The register at a byte offset from 0xE000ED90.
-pub fn register_at(offset: u32) -> MpuRegister
+// PMSAv7's register at a byte offset from 0xE000ED90.
+fn register_at(offset: u32) -> MpuRegister
     ensures { λ r. ⌜ r ≡ mpuRegisterAt offset ⌝ }
 {
     match offset {
@@ -44,6 +63,16 @@ pub fn register_at(offset: u32) -> MpuRegister
     }
 }
 
+// The register of a guard at a byte offset from 0xE000ED90.
+pub fn guard_register_at(edition: Edition, offset: u32) -> MpuRegister
+    ensures { λ r. ⌜ r ≡ guardRegisterAt edition offset ⌝ }
+{
+    match edition {
+        Edition::Pmsav7 => register_at(offset),
+        Edition::Pmsav8 => pmsav8::register_at(offset),
+    }
+}
+
 fn kept_base(x: u32) -> u32
     ensures { λ r. ⌜ r ≡ keptBase x ⌝ }
 {
@@ -54,6 +83,33 @@ fn kept_attributes(x: u32) -> u32
     ensures { λ r. ⌜ r ≡ keptAttributes x ⌝ }
 {
     x & 0x173fff3f
+}
+
+fn kept_first(edition: Edition, x: u32) -> u32
+    ensures { λ r. ⌜ r ≡ keptFirst edition x ⌝ }
+{
+    match edition {
+        Edition::Pmsav7 => kept_base(x),
+        Edition::Pmsav8 => x,
+    }
+}
+
+fn kept_second(edition: Edition, x: u32) -> u32
+    ensures { λ r. ⌜ r ≡ keptSecond edition x ⌝ }
+{
+    match edition {
+        Edition::Pmsav7 => kept_attributes(x),
+        Edition::Pmsav8 => kept_rlar(x),
+    }
+}
+
+fn kept_plain(edition: Edition, x: u32) -> u32
+    ensures { λ r. ⌜ r ≡ keptPlain edition x ⌝ }
+{
+    match edition {
+        Edition::Pmsav7 => 0,
+        Edition::Pmsav8 => x,
+    }
 }
 
 // An unsound guard may select a region past the last: it reads 0, and a write there is lost.
@@ -79,15 +135,15 @@ fn with_word(mut words: [u32; 8], n: u32, x: u32) -> [u32; 8]
 }
 
 // The caller lends two arrays of eight.
-fn regions_kept(bases: &[u32], attributes: &[u32]) -> bool
+fn regions_kept(edition: Edition, bases: &[u32], attributes: &[u32]) -> bool
     requires { ⌜ length (now bases) ≡ length (now attributes) ⌝ }
-    ensures { λ r. ⌜ r ≡ every (regionKept (now (bases .entry)) (now (attributes .entry))) (length (now (attributes .entry))) ⌝ }
+    ensures { λ r. ⌜ r ≡ every (regionKept edition (now (bases .entry)) (now (attributes .entry))) (length (now (attributes .entry))) ⌝ }
 {
     let mut ok = true;
     let mut i = 0;
     while i < attributes.len() {
-        let base = kept_base(bases[i]) == bases[i];
-        let kept = both(base, kept_attributes(attributes[i]) == attributes[i]);
+        let base = kept_first(edition, bases[i]) == bases[i];
+        let kept = both(base, kept_second(edition, attributes[i]) == attributes[i]);
         ok = both(kept, ok);
         i += 1;
     }
@@ -104,16 +160,40 @@ impl Mpu {
             region: 0,
             bases: zeros,
             attributes: zeros,
+            mair0: 0,
+            mair1: 0,
         }
     }
 
-    pub fn is_sound(self) -> bool
-        ensures { λ r. ⌜ r ≡ soundMpu self ⌝ }
+    fn plain_kept(self, edition: Edition) -> bool
+        ensures { λ r. ⌜ r ≡ plainKept edition self ⌝ }
+    {
+        let first = kept_plain(edition, self.mair0) == self.mair0;
+        both(first, kept_plain(edition, self.mair1) == self.mair1)
+    }
+
+    pub fn is_sound(self, edition: Edition) -> bool
+        ensures { λ r. ⌜ r ≡ soundMpu edition self ⌝ }
     {
         let bases = self.bases;
         let attributes = self.attributes;
         let front = both(self.control < 8, self.region < 8);
-        both(front, regions_kept(&bases, &attributes))
+        let words = both(front, regions_kept(edition, &bases, &attributes));
+        both(words, self.plain_kept(edition))
+    }
+
+    fn read_rbar(self, pair: u32) -> u32
+        ensures { λ r. ⌜ r ≡ readRbar pair self ⌝ }
+    {
+        let bases = self.bases;
+        word_at(&bases, region_of(pair, self.region))
+    }
+
+    fn read_rlar(self, pair: u32) -> u32
+        ensures { λ r. ⌜ r ≡ readRlar pair self ⌝ }
+    {
+        let attributes = self.attributes;
+        word_at(&attributes, region_of(pair, self.region))
     }
 
     pub fn read(self, register: MpuRegister) -> u32
@@ -128,6 +208,10 @@ impl Mpu {
             MpuRegister::Number => region,
             MpuRegister::Base => kept_base(word_at(&bases, region)) + region % 16,
             MpuRegister::Attributes => word_at(&attributes, region),
+            MpuRegister::Rbar(pair) => self.read_rbar(pair),
+            MpuRegister::Rlar(pair) => self.read_rlar(pair),
+            MpuRegister::Mair0 => self.mair0,
+            MpuRegister::Mair1 => self.mair1,
             MpuRegister::Missing => 0,
         }
     }
@@ -180,6 +264,38 @@ impl Mpu {
         self
     }
 
+    fn with_rbar(mut self, pair: u32, x: u32) -> Mpu
+        ensures { λ r. ⌜ r ≡ withRbar pair x self ⌝ }
+    {
+        let old = self.bases;
+        let bases = with_word(old, region_of(pair, self.region), x);
+        self.bases = bases;
+        self
+    }
+
+    fn with_rlar(mut self, pair: u32, x: u32) -> Mpu
+        ensures { λ r. ⌜ r ≡ withRlar pair x self ⌝ }
+    {
+        let old = self.attributes;
+        let attributes = with_word(old, region_of(pair, self.region), kept_rlar(x));
+        self.attributes = attributes;
+        self
+    }
+
+    fn with_mair0(mut self, x: u32) -> Mpu
+        ensures { λ r. ⌜ r ≡ withMair0 x self ⌝ }
+    {
+        self.mair0 = x;
+        self
+    }
+
+    fn with_mair1(mut self, x: u32) -> Mpu
+        ensures { λ r. ⌜ r ≡ withMair1 x self ⌝ }
+    {
+        self.mair1 = x;
+        self
+    }
+
     pub fn write(self, register: MpuRegister, x: u32) -> Mpu
         ensures { λ r. ⌜ r ≡ writeMpu register x self ⌝ }
     {
@@ -189,6 +305,10 @@ impl Mpu {
             MpuRegister::Number => self.write_number(x),
             MpuRegister::Base => self.write_base(x),
             MpuRegister::Attributes => self.write_attributes(x),
+            MpuRegister::Rbar(pair) => self.with_rbar(pair, x),
+            MpuRegister::Rlar(pair) => self.with_rlar(pair, x),
+            MpuRegister::Mair0 => self.with_mair0(x),
+            MpuRegister::Mair1 => self.with_mair1(x),
             MpuRegister::Missing => self,
         }
     }

@@ -4,6 +4,7 @@ use mathlib.Core.List.{List, [], _∷_, map}
 use native.Mathlib.Omega.{arith}
 use lib.Dec.{T}
 use Rattle.script.specs.declared.Event.{Event}
+use Rattle.mpu.specs.declared.Edition.the-variants.{Pmsav7}
 use Rattle.rules.specs.declared.Part.the-variants.{Lines55, Lines240}
 use Rattle.rules.specs.declared.Setup.{Setup}
 use Rattle.rules.specs.Chip.{chip55, chip240, chipOf, fits}
@@ -50,10 +51,10 @@ as-bench t g script small o outs here others there p q k l e f =
 -- ---- "An old script for 55 lines .. on the new chip"
 
 grown : Grown chip55 chip240
-grown = record { lines = omega arith; bits = refl; fit = tt }
+grown = record { lines = omega arith; bits = refl; guard = refl; fit = tt }
 
-pub old-replies-55-240 : OldReplies (record { part = Lines55; bits = 3 }) (record { part = Lines240; bits = 3 })
+pub old-replies-55-240 : OldReplies (record { part = Lines55; bits = 3; guard = Pmsav7 }) (record { part = Lines240; bits = 3; guard = Pmsav7 })
 old-replies-55-240 = old-replies _ _ grown
 
-pub as-bench-240 : AsBench (record { part = Lines240; bits = 3 })
+pub as-bench-240 : AsBench (record { part = Lines240; bits = 3; guard = Pmsav7 })
 as-bench-240 = as-bench _ grown

@@ -288,11 +288,11 @@ module _ {c d : Chip} (g : Grown c d) {m t : Model} (h : Sound c m) (k : Sound d
 
   -- ---- access verdicts
 
-  pub access-meets : (kind w x : ℕ) → Meets (accessCall m kind w x) (accessCall t kind w x)
+  pub access-meets : (kind w x : ℕ) → Meets (accessCall c m kind w x) (accessCall d t kind w x)
   unfolding accessAt
   access-meets kind w x =
-      at-execution (λ e. accessAt e m kind w x) (λ e. accessAt e t kind w x)
+      at-execution (λ e. accessAt (c .guard) e m kind w x) (λ e. accessAt (d .guard) e t kind w x)
       (λ e. both-ways Meets (ltb 2 kind) (ltb 2 kind) refl (λ _. meets-refuse refl a)
       (λ _. both-ways Meets (not (fitsAccess kind w)) (not (fitsAccess kind w)) refl (λ _. meets-refuse refl a)
       (λ _. both-ways Meets (not (eqb (x % w) 0)) (not (eqb (x % w) 0)) refl (λ _. meets-refuse refl a)
-      (λ _. meets-done (rw (a .core)) a))))
+      (λ _. meets-done (rw (g .guard, a .core)) a))))

@@ -116,4 +116,4 @@ old-scripts {c} {d} g =
 
 -- "An old script for 55 lines gives the same output lines on the new chip"
 pub old-scripts-55-240 : OldScripts chip55 chip240
-old-scripts-55-240 = old-scripts (record { lines = omega arith; bits = refl; fit = tt })
+old-scripts-55-240 = old-scripts (record { lines = omega arith; bits = refl; guard = refl; fit = tt })

@@ -15,7 +15,8 @@ use Rattle.grouping.specs.Grouping.{keptByte}
 use Rattle.flag_words.specs.Flags.{clearFlags}
 use Rattle.mpu.specs.declared.MpuRegister.{MpuRegister}
 use Rattle.mpu.specs.declared.MpuRegister.the-variants as mpu
-use Rattle.mpu.specs.Registers.{mpuRegisterAt, readMpu, writeMpu}
+use Rattle.mpu.specs.Registers.{readMpu, writeMpu}
+use Rattle.mpu.specs.Editions.{guardRegisterAt}
 use Rattle.rules.specs.declared.Chip.{Chip}
 use Rattle.rules.specs.declared.Core.{Core}
 use Rattle.rules.specs.declared.System.{System}
@@ -133,7 +134,7 @@ module _ {c d : Chip} (g : Grown c d) where
     block-same : blockRegister c (aligned a) ≡ blockRegister d (aligned a)
     unfolding blockRegister
     block-same =
-        rw (flags-in 0xE000E100 a refl (o .enableSet), flags-in 0xE000E180 a refl (o .enableClear), flags-in 0xE000E200 a refl (o .pendingSet), flags-in 0xE000E280 a refl (o .pendingClear), flags-in 0xE000E300 a refl (o .active), bytes-in)
+        rw (flags-in 0xE000E100 a refl (o .enableSet), flags-in 0xE000E180 a refl (o .enableClear), flags-in 0xE000E200 a refl (o .pendingSet), flags-in 0xE000E280 a refl (o .pendingClear), flags-in 0xE000E300 a refl (o .active), bytes-in, g .guard)
 
     register-same : registerOf c a ≡ registerOf d a
     unfolding registerAt
@@ -173,6 +174,10 @@ module _ {c d : Chip} (g : Grown c d) {w a : ℕ} (o : Apart c d w a) where
   guard-placed mpu.Number = tt
   guard-placed mpu.Base = tt
   guard-placed mpu.Attributes = tt
+  guard-placed (mpu.Rbar pair) = tt
+  guard-placed (mpu.Rlar pair) = tt
+  guard-placed mpu.Mair0 = tt
+  guard-placed mpu.Mair1 = tt
 
   byte-placed : T (inBlock 0xE000E400 (byteWords c) (aligned a)) → Placed c w a (reg.Priority (16 + (aligned a - 0xE000E400)))
   unfolding Placed
@@ -197,7 +202,7 @@ module _ {c d : Chip} (g : Grown c d) {w a : ℕ} (o : Apart c d w a) where
       (λ _. by-cases (Placed c w a) (inBlock 0xE000E280 (flagWords c) (aligned a)) (flags-fit g 0xE000E280 a refl (o .pendingClear))
       (λ _. by-cases (Placed c w a) (inBlock 0xE000E300 (flagWords c) (aligned a)) (flags-fit g 0xE000E300 a refl (o .active))
       (λ _. by-cases (Placed c w a) (inBlock 0xE000E400 (byteWords c) (aligned a)) byte-placed
-      (λ _. by-cases (Placed c w a) (inBlock 0xE000ED90 11 (aligned a)) (λ _. guard-placed (mpuRegisterAt (aligned a - 0xE000ED90))) (λ _. tt)))))))
+      (λ _. by-cases (Placed c w a) (inBlock 0xE000ED90 14 (aligned a)) (λ _. guard-placed (guardRegisterAt (c .guard) (aligned a - 0xE000ED90))) (λ _. tt)))))))
 
   register-placed : Placed c w a (registerOf c a)
   unfolding Placed registerAt

@@ -114,10 +114,11 @@ areOld c d (e ∷ es) = isOld c d e && areOld c d es
 
 -- ---- the claim
 
--- d has the lines of c, and keeps the same bits of a priority byte, 3 to 8 of them
+-- d has the lines of c, keeps the same bits of a priority byte, 3 to 8 of them, and has the same guard
 pub record Grown (c d : Chip) : Type 0 where
   pub lines : c .lines ≤ d .lines
   pub bits : c .bits ≡ d .bits
+  pub guard : c .guard ≡ d .guard
   pub fit : T (fits c)
 
 pub record OldScripts (c d : Chip) : Type 0 where

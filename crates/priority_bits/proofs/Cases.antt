@@ -7,6 +7,7 @@ use Rattle.flag_words.specs.Flags as flags
 use Rattle.priority.specs.Priority as priority
 use Rattle.systick.specs.Timer as timer
 use Rattle.mpu.specs.Registers as mpu
+use Rattle.mpu.specs.Editions as editions
 use Rattle.mpu.specs.Soundness as guard
 use Rattle.rules.specs.Model as model
 use Rattle.rules.specs.Priorities as priorities
@@ -20,5 +21,5 @@ use Rattle.rules.specs.Registers as registers
 use Rattle.rules.specs.Step as step
 
 pub cases-hold : Holds cases
-unfolding cases flags.putFlag flags.putFlags priority.leastActive priority.executionPriority priority.best priority.bestPending timer.soundTimer mpu.freshMpu mpu.keptBase mpu.keptAttributes guard.regionKept guard.soundMpu model.fresh priorities.execution every.every sound.flagSound sound.byteSound sound.countSound sound.nestedSound sound.unusedSound sound.soundNest sound.soundFlags sound.soundSystem sound.isSized sound.isSound events.levelled events.losesRise events.counted events.lineCall events.basepriRaised events.specialWritten events.specialAt nesting.entered nesting.entryAt addresses.blockRegister addresses.registerAt addresses.widthRefusal reads.bytesValue reads.valueOf reads.afterRead writes.bankWritten writes.withByte writes.withBytes writes.apintWritten writes.systemWritten writes.wordWritten writes.byteWritten registers.accessRefusal registers.laneOf registers.readCall registers.written registers.writeCall step.guarded step.admitted
+unfolding cases flags.putFlag flags.putFlags priority.leastActive priority.executionPriority priority.best priority.bestPending timer.soundTimer mpu.freshMpu mpu.keptBase mpu.keptAttributes editions.guardRegisterAt editions.keptFirst editions.keptSecond editions.keptPlain guard.regionKept guard.plainKept guard.soundMpu model.fresh priorities.execution every.every sound.flagSound sound.byteSound sound.countSound sound.nestedSound sound.unusedSound sound.soundNest sound.soundFlags sound.soundSystem sound.isSized sound.isSound events.levelled events.losesRise events.counted events.lineCall events.basepriRaised events.specialWritten events.specialAt nesting.entered nesting.entryAt addresses.blockRegister addresses.registerAt addresses.widthRefusal reads.bytesValue reads.valueOf reads.afterRead writes.bankWritten writes.withByte writes.withBytes writes.apintWritten writes.systemWritten writes.wordWritten writes.byteWritten registers.accessRefusal registers.laneOf registers.readCall registers.written registers.writeCall step.guarded step.admitted
 cases-hold = (refl, (refl, (refl, (refl, (refl, (refl, (refl, (refl, (refl, (refl, (refl, (refl, (refl, (refl, (refl, (refl, (refl, (refl, (refl, (refl, (refl, (refl, (refl, tt)))))))))))))))))))))))

@@ -45,5 +45,5 @@ priority-bits =
       fitting = fitting;
       refused = λ c f m e. misfit-first c m e f;
       text = misfit-text;
-      old-scripts = λ w low high. old-scripts (record { lines = omega arith; bits = refl; fit = from-3-to-8 chip55 w low high });
+      old-scripts = λ w low high. old-scripts (record { lines = omega arith; bits = refl; guard = refl; fit = from-3-to-8 chip55 w low high });
     }

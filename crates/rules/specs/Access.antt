@@ -1,11 +1,13 @@
--- Document 01, "Access verdicts", as a call.
+-- Document 01, "Access verdicts", as a call; the verdict is that of the chip's guard (document 02, E12).
 use Prim.Native.Nat.{ℕ, _%_}
 use mathlib.Core.Bool.{Bool, not, cond}
 use lib.Dec.{ltb, eqb}
 use lib.IntN.{ℤ}
+use Rattle.mpu.specs.declared.Edition.{Edition}
 use Rattle.verdicts.specs.declared.Access.{Access}
 use Rattle.verdicts.specs.declared.Access.the-variants as access
-use Rattle.verdicts.specs.Verdict.{verdict}
+use Rattle.editions.specs.Editions.{guardVerdict}
+use Rattle.rules.specs.declared.Chip.{Chip}
 use Rattle.rules.specs.Model.{Model, Answer, refuse, done}
 use Rattle.rules.specs.Priorities.{execution, isNegative, privileged}
 use Rattle.rules.specs.Registers.{isWidth}
@@ -19,12 +21,12 @@ unfoldable pub fitsAccess : ℕ → ℕ → Bool
 fitsAccess k w = cond (eqb k 2) (eqb w 2) (isWidth w)
 
 -- "The state stays."
-unfoldable pub accessAt : ℤ → Model → ℕ → ℕ → ℕ → Answer
-accessAt e m k w a =
+unfoldable pub accessAt : Edition → ℤ → Model → ℕ → ℕ → ℕ → Answer
+accessAt edition e m k w a =
     cond (ltb 2 k) (refuse 6 m)
     (cond (not (fitsAccess k w)) (refuse 1 m)
     (cond (not (eqb (a % w) 0)) (refuse 2 m)
-    (done (verdict (m .core .guard) (purposeOf k) a (privileged (m .core)) (isNegative e)) m)))
+    (done (guardVerdict edition (m .core .guard) (purposeOf k) a (privileged (m .core)) (isNegative e)) m)))
 
-abbrev pub accessCall : Model → ℕ → ℕ → ℕ → Answer
-accessCall m k w a = accessAt (execution m) m k w a
+abbrev pub accessCall : Chip → Model → ℕ → ℕ → ℕ → Answer
+accessCall c m k w a = accessAt (c .guard) (execution m) m k w a

@@ -1,8 +1,10 @@
--- Document 01, "The chip", and document 02, E4 and E7: which chips there are, and which exceptions each has.
+-- Document 01, "The chip", and document 02, E4, E7 and E12: which chips there are, and which exceptions each has.
 use Prim.Native.Nat.{ℕ, _+_}
 use mathlib.Core.List.{List, [], _∷_}
 use mathlib.Core.Bool.{Bool, false, cond, _&&_, _||_}
 use lib.Dec.{ltb, leb, eqb}
+use Rattle.mpu.specs.declared.Edition.{Edition}
+use Rattle.mpu.specs.declared.Edition.the-variants.{Pmsav7}
 use Rattle.rules.specs.declared.Chip.{Chip}
 use Rattle.rules.specs.declared.Part.{Part}
 use Rattle.rules.specs.declared.Part.the-variants.{Lines55, Lines240}
@@ -12,11 +14,11 @@ use Rattle.rules.specs.declared.Place.the-variants.{Exception, Enable, L
 
 -- "Lines 0 to 54", "bits 7:5 are kept"
 abbrev pub chip55 : Chip
-chip55 = record { lines = 55; bits = 3 }
+chip55 = record { lines = 55; bits = 3; guard = Pmsav7 }
 
 -- E4: "The next printer's chip has lines 0 to 239"
 abbrev pub chip240 : Chip
-chip240 = record { lines = 240; bits = 3 }
+chip240 = record { lines = 240; bits = 3; guard = Pmsav7 }
 
 abbrev pub partChip : Part → Chip
 partChip Lines55 = chip55
@@ -24,11 +26,15 @@ partChip Lines240 = chip240
 
 -- E7: "Let a chip keep the top w bits"
 abbrev pub withBits : ℕ → Chip → Chip
-withBits w c = record { lines = c .lines; bits = w }
+withBits w c = record { lines = c .lines; bits = w; guard = c .guard }
 
--- E4: "the library's caller names the chip or setup", and with E7 the bits that it keeps
+-- E12: "The successor core has the ARMv8-M guard", "a second guard"
+abbrev pub withEdition : Edition → Chip → Chip
+withEdition e c = record { lines = c .lines; bits = c .bits; guard = e }
+
+-- E4: "the library's caller names the chip or setup", with E7 the bits that it keeps, with E12 its guard
 abbrev pub chipOf : Setup → Chip
-chipOf s = withBits (s .bits) (partChip (s .part))
+chipOf s = withEdition (s .guard) (withBits (s .bits) (partChip (s .part)))
 
 -- E7: "w from 3 to 8"
 abbrev pub fits : Chip → Bool

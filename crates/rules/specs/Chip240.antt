@@ -6,6 +6,7 @@ use mathlib.Core.Bool.{Bool, true, false}
 use native.Mathlib.Omega.{arith}
 use lib.ListN.{set}
 use Rattle.bits.specs.Words.{field}
+use Rattle.mpu.specs.declared.Edition.the-variants.{Pmsav7}
 use Rattle.rules.specs.declared.Register.the-variants as reg
 use Rattle.rules.specs.declared.Bank.the-variants.{EnableSet, EnableClear, PendingSet, PendingClear, Active}
 use Rattle.rules.specs.declared.SystemRegister.the-variants.{Ictype}
@@ -19,7 +20,7 @@ use Rattle.rules.specs.Writes.{swtrigWritten}
 use Rattle.rules.specs.Events.{lineCall}
 
 -- "Both chips stay .. the library's caller names the chip"
-named : (chipOf (record { part = Lines55; bits = 3 }) ≡ chip55) × (chipOf (record { part = Lines240; bits = 3 }) ≡ chip240)
+named : (chipOf (record { part = Lines55; bits = 3; guard = Pmsav7 }) ≡ chip55) × (chipOf (record { part = Lines240; bits = 3; guard = Pmsav7 }) ≡ chip240)
 named = (refl, refl)
 
 -- "lines 0 to 239, exceptions up to 255"

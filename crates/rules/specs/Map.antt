@@ -4,7 +4,7 @@ use mathlib.Core.Bool.{Bool, cond, _&&_}
 use lib.Dec.{ltb, leb, eqb}
 use Rattle.mpu.specs.declared.MpuRegister.{MpuRegister}
 use Rattle.mpu.specs.declared.MpuRegister.the-variants as mpu
-use Rattle.mpu.specs.Registers.{mpuRegisterAt}
+use Rattle.mpu.specs.Editions.{guardRegisterAt}
 use Rattle.rules.specs.declared.TimerRegister.the-variants.{Stctrl, Streload, Stcurrent}
 use Rattle.rules.specs.declared.Bank.the-variants.{EnableSet, EnableClear, PendingSet, PendingClear, Active}
 use Rattle.rules.specs.declared.SystemRegister.the-variants.{Ictype, Cpuid, Intctrl, Vtable, Apint, Sysctrl, Cfgctrl, Syshndctrl, Faultstat, Hfaultstat, Mmaddr, Faultaddr, Swtrig}
@@ -34,8 +34,13 @@ guardRegister mpu.Control = Guard mpu.Control
 guardRegister mpu.Number = Guard mpu.Number
 guardRegister mpu.Base = Guard mpu.Base
 guardRegister mpu.Attributes = Guard mpu.Attributes
+guardRegister (mpu.Rbar pair) = Guard (mpu.Rbar pair)
+guardRegister (mpu.Rlar pair) = Guard (mpu.Rlar pair)
+guardRegister mpu.Mair0 = Guard mpu.Mair0
+guardRegister mpu.Mair1 = Guard mpu.Mair1
 
--- the blocks, whose length is the chip's: E100 enable set, E180 clear, E200 pending set, E280 clear, E300 active, E400 priority bytes; ED90 MPU
+-- the blocks, whose length is the chip's: E100 enable set, E180 clear, E200 pending set, E280 clear, E300 active, E400 priority bytes; ED90 the
+-- MPU, to EDC4 at most (document 02, E12: "the guard's own register map")
 unfoldable pub blockRegister : Chip → ℕ → Register
 blockRegister c a =
     cond (inBlock 0xE000E100 (flagWords c) a) (Flags EnableSet (firstFlag 0xE000E100 a))
@@ -44,7 +49,7 @@ blockRegister c a =
     (cond (inBlock 0xE000E280 (flagWords c) a) (Flags PendingClear (firstFlag 0xE000E280 a))
     (cond (inBlock 0xE000E300 (flagWords c) a) (Flags Active (firstFlag 0xE000E300 a))
     (cond (inBlock 0xE000E400 (byteWords c) a) (Priority (16 + (a - 0xE000E400)))
-    (cond (inBlock 0xE000ED90 11 a) (guardRegister (mpuRegisterAt (a - 0xE000ED90)))
+    (cond (inBlock 0xE000ED90 14 a) (guardRegister (guardRegisterAt (c .guard) (a - 0xE000ED90)))
     Missing))))))
 
 -- The register at the aligned address a. ED18, 1C and 20 hold the bytes of the exceptions 4 to 15.

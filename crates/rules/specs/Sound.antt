@@ -97,7 +97,7 @@ isSound c m =
     && ltb (m .core .group) 8
     && eqb (keptByte (c .bits) (m .core .masks .basepri)) (m .core .masks .basepri)
     && soundTimer (m .core .timer)
-    && soundMpu (m .core .guard)
+    && soundMpu (c .guard) (m .core .guard)
     && soundSystem c (m .core .system)
 
 -- ---- the facts, part by part: each names only the fields that it is about
@@ -141,7 +141,7 @@ pub record SoundCore (c : Chip) (k : Core) : Type 0 where
   pub group : k .group < 8
   pub basepri : keptByte (c .bits) (k .masks .basepri) ≡ k .masks .basepri
   pub timer : SoundTimer (k .timer)
-  pub guard : SoundMpu (k .guard)
+  pub guard : SoundMpu (c .guard) (k .guard)
   pub system : SoundSystem c (k .system)
 
 pub record Sound (c : Chip) (m : Model) : Type 0 where

@@ -25,7 +25,7 @@ actOf c m event.Svc = svcCall m
 actOf c m (event.Special which v) = specialCall c m which v
 actOf c m event.Entry = entryCall m
 actOf c m (event.Return v) = returnCall m v
-actOf c m (event.Access kind w a) = accessCall m (accessNumber kind) w a
+actOf c m (event.Access kind w a) = accessCall c m (accessNumber kind) w a
 actOf c m (event.Lost line) = lostCall c m line
 actOf c m (event.Skip n) = skipCall m n
 

@@ -3,12 +3,14 @@
 ghost use mathlib.Core.Path.{_≡_};
 ghost use Rattle.rules.specs.Chip.{chipOf, fits};
 use bools::both;
+use mpu::Edition;
 use mpu::Mpu;
 use mpu::MpuRegister;
 use systick::Timer;
 
-// A chip: how many lines it has, and how many bits of a priority byte it keeps.
+// A chip: which guard it has, how many lines, and how many bits of a priority byte it keeps.
 pub struct Chip {
+    pub guard: Edition,
     pub lines: u32,
     pub bits: u32,
 }
@@ -20,10 +22,11 @@ pub enum Part {
 }
 
 // How a caller names a chip: `chipOf` of the rules. `bits` is how many bits of a priority byte are kept (CMSIS calls it __NVIC_PRIO_BITS): any
-// number may stand there, and outside 3 to 8 every call refuses it by 17.
+// number may stand there, and outside 3 to 8 every call refuses it by 17. `guard` is the edition of its MPU.
 pub struct Setup {
     pub part: Part,
     pub bits: u32,
+    pub guard: Edition,
 }
 
 impl Chip {
@@ -41,9 +44,18 @@ impl Setup {
     {
         let part = self.part;
         let bits = self.bits;
+        let guard = self.guard;
         match part {
-            Part::Lines55 => Chip { lines: 55, bits },
-            Part::Lines240 => Chip { lines: 240, bits },
+            Part::Lines55 => Chip {
+                lines: 55,
+                bits,
+                guard,
+            },
+            Part::Lines240 => Chip {
+                lines: 240,
+                bits,
+                guard,
+            },
         }
     }
 }

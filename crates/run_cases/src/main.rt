@@ -1,6 +1,7 @@
 // Runs of a script by call on a setup that keeps so many bits, a labelled line for each with what the run writes after it: the refusal, and whether
 // the script has ended. What must be printed was worked out from documents 01 and 02.
 use libc::STDOUT_FILENO;
+use mpu::Edition;
 use rules::Part;
 use rules::Setup;
 
@@ -25,6 +26,7 @@ fn run(label: &[u8], bits: u32, script: &[u8], out: &mut [u8]) {
     let setup = Setup {
         part: Part::Lines55,
         bits,
+        guard: Edition::Pmsav7,
     };
     let r = any_run::run_some(script, any_run::start(setup), out);
     number(bits);

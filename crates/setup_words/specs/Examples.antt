@@ -3,17 +3,18 @@ use Prim.Native.Nat.{ℕ}
 use mathlib.Core.Path.{_≡_, refl}
 use mathlib.Core.List.{List, [], _∷_}
 use mathlib.Core.Bool.{Bool, true, false}
+use Rattle.mpu.specs.declared.Edition.the-variants.{Pmsav7, Pmsav8}
 use Rattle.rules.specs.declared.Setup.{Setup}
 use Rattle.rules.specs.declared.Part.the-variants.{Lines55, Lines240}
 use Rattle.setup_words.specs.declared.Words.{Words}
-use Rattle.setup_words.specs.Words.{linesWord, number55, number240, bitsWord, isSame, areDigits, isNumber, numberFrom, started, linesBy, bitsBy, paired}
+use Rattle.setup_words.specs.Words.{linesWord, number55, number240, bitsWord, guardWord, pmsav7Word, pmsav8Word, isSame, areDigits, isNumber, numberFrom, started, linesBy, bitsBy, guardBy, paired}
 
 -- words that name the 55-line chip, or the 240-line chip, with so many kept bits
 abbrev Names55 : ℕ → Words → Type 0
-Names55 bits w = (w .setup ≡ record { part = Lines55; bits = bits }) × (w .wrong ≡ false)
+Names55 bits w = (w .setup ≡ record { part = Lines55; bits = bits; guard = Pmsav7 }) × (w .wrong ≡ false)
 
 abbrev Names240 : ℕ → Words → Type 0
-Names240 bits w = (w .setup ≡ record { part = Lines240; bits = bits }) × (w .wrong ≡ false)
+Names240 bits w = (w .setup ≡ record { part = Lines240; bits = bits; guard = Pmsav7 }) × (w .wrong ≡ false)
 
 none : Names55 3 started
 none = (refl, refl)
@@ -79,3 +80,18 @@ too-large = (refl, refl)
 no-number : (paired started bitsWord (45 ∷ 51 ∷ []) .wrong ≡ true) × (paired started bitsWord [] .wrong ≡ true) × (paired (paired started bitsWord (51 ∷ [])) bitsWord (51 ∷ []) .wrong ≡ true)
 unfolding paired bitsBy isSame isNumber areDigits numberFrom
 no-number = (refl, refl, refl)
+
+-- `--guard pmsav8` and `--guard pmsav7`
+guards : (paired started guardWord pmsav8Word .setup ≡ record { part = Lines55; bits = 3; guard = Pmsav8 }) × (paired started guardWord pmsav8Word .wrong ≡ false) × Names55 3 (paired started guardWord pmsav7Word)
+unfolding paired guardBy isSame
+guards = (refl, refl, (refl, refl))
+
+-- `--guard pmsav8 --lines 240 --bits 4`
+all-words : paired (paired (paired started guardWord pmsav8Word) linesWord number240) bitsWord (52 ∷ []) .setup ≡ record { part = Lines240; bits = 4; guard = Pmsav8 }
+unfolding paired linesBy bitsBy guardBy isSame isNumber areDigits numberFrom
+all-words = refl
+
+-- `--guard PMSAv8`, `--guard` without a value, and `--guard pmsav8 --guard pmsav8`
+no-guard : (paired started guardWord (80 ∷ 77 ∷ 83 ∷ 65 ∷ 118 ∷ 56 ∷ []) .wrong ≡ true) × (paired started guardWord [] .wrong ≡ true) × (paired (paired started guardWord pmsav8Word) guardWord pmsav8Word .wrong ≡ true)
+unfolding paired guardBy isSame
+no-guard = (refl, refl, refl)

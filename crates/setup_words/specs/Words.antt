@@ -3,6 +3,8 @@ use Prim.Native.Nat.{ℕ, _+_, _-_, _*_, min}
 use mathlib.Core.List.{List, [], _∷_}
 use mathlib.Core.Bool.{Bool, true, false, cond, _&&_}
 use lib.Dec.{leb, eqb}
+use Rattle.mpu.specs.declared.Edition.{Edition}
+use Rattle.mpu.specs.declared.Edition.the-variants.{Pmsav7, Pmsav8}
 use Rattle.rules.specs.declared.Part.{Part}
 use Rattle.rules.specs.declared.Part.the-variants.{Lines55, Lines240}
 use Rattle.setup_words.specs.declared.Words.{Words}
@@ -20,6 +22,16 @@ number240 = 50 ∷ 52 ∷ 48 ∷ []
 -- "--bits"
 abbrev pub bitsWord : List ℕ
 bitsWord = 45 ∷ 45 ∷ 98 ∷ 105 ∷ 116 ∷ 115 ∷ []
+
+-- "--guard", "pmsav7", "pmsav8"
+abbrev pub guardWord : List ℕ
+guardWord = 45 ∷ 45 ∷ 103 ∷ 117 ∷ 97 ∷ 114 ∷ 100 ∷ []
+
+abbrev pub pmsav7Word : List ℕ
+pmsav7Word = 112 ∷ 109 ∷ 115 ∷ 97 ∷ 118 ∷ 55 ∷ []
+
+abbrev pub pmsav8Word : List ℕ
+pmsav8Word = 112 ∷ 109 ∷ 115 ∷ 97 ∷ 118 ∷ 56 ∷ []
 
 -- byte for byte
 unfoldable pub isSame : List ℕ → List ℕ → Bool
@@ -49,19 +61,25 @@ unfoldable pub numberFrom : ℕ → List ℕ → ℕ
 numberFrom n [] = n
 numberFrom n (b ∷ bs) = numberFrom (withDigit n b) bs
 
--- No words: the 55-line chip, three bits.
+-- No words: the 55-line chip, three bits, the guard of ARMv7-M.
 abbrev pub started : Words
-started = record { setup = record { part = Lines55; bits = 3 }; lines = false; bits = false; wrong = false }
+started = record { setup = record { part = Lines55; bits = 3; guard = Pmsav7 }; lines = false; bits = false; guard = false; wrong = false }
 
 -- An unknown word, a value that is no choice or no number, or a word for the second time: whatever follows, the words stay wrong.
 abbrev pub mistaken : Words → Words
-mistaken w = record { setup = w .setup; lines = w .lines; bits = w .bits; wrong = true }
+mistaken w = record { setup = w .setup; lines = w .lines; bits = w .bits; guard = w .guard; wrong = true }
 
 abbrev pub withPart : Words → Part → Words
-withPart w part = record { setup = record { part = part; bits = w .setup .bits }; lines = true; bits = w .bits; wrong = w .wrong }
+withPart w part =
+    record { setup = record { part = part; bits = w .setup .bits; guard = w .setup .guard }; lines = true; bits = w .bits; guard = w .guard; wrong = w .wrong }
 
 abbrev pub keeping : Words → ℕ → Words
-keeping w n = record { setup = record { part = w .setup .part; bits = n }; lines = w .lines; bits = true; wrong = w .wrong }
+keeping w n =
+    record { setup = record { part = w .setup .part; bits = n; guard = w .setup .guard }; lines = w .lines; bits = true; guard = w .guard; wrong = w .wrong }
+
+abbrev pub guardedBy : Words → Edition → Words
+guardedBy w e =
+    record { setup = record { part = w .setup .part; bits = w .setup .bits; guard = e }; lines = w .lines; bits = w .bits; guard = true; wrong = w .wrong }
 
 -- `--lines 55|240`
 unfoldable pub linesBy : Words → List ℕ → Words
@@ -78,9 +96,18 @@ bitsBy w value =
     (cond (isNumber value) (keeping w (numberFrom 0 value))
     (mistaken w))
 
+-- `--guard pmsav7|pmsav8`
+unfoldable pub guardBy : Words → List ℕ → Words
+guardBy w value =
+    cond (w .guard) (mistaken w)
+    (cond (isSame value pmsav7Word) (guardedBy w Pmsav7)
+    (cond (isSame value pmsav8Word) (guardedBy w Pmsav8)
+    (mistaken w)))
+
 -- a word and its value
 unfoldable pub paired : Words → List ℕ → List ℕ → Words
 paired w word value =
     cond (isSame word linesWord) (linesBy w value)
     (cond (isSame word bitsWord) (bitsBy w value)
-    (mistaken w))
+    (cond (isSame word guardWord) (guardBy w value)
+    (mistaken w)))

@@ -1,7 +1,8 @@
 // The words after a program's name that name a setup.
 ghost use mathlib.Core.Path.{_≡_};
 ghost use Prim.Native.Nat.{_-_};
-ghost use Rattle.setup_words.specs.Words.{isSame, isDigit, areDigits, isNumber, withDigit, numberFrom, started, mistaken, withPart, keeping, linesBy, bitsBy, paired};
+ghost use Rattle.setup_words.specs.Words.{isSame, isDigit, areDigits, isNumber, withDigit, numberFrom, started, mistaken, withPart, keeping, guardedBy, linesBy, bitsBy, guardBy, paired};
+use mpu::Edition;
 use rules::Part;
 use rules::Setup;
 
@@ -10,6 +11,7 @@ pub struct Words {
     pub setup: Setup,
     pub lines: bool,
     pub bits: bool,
+    pub guard: bool,
     pub wrong: bool,
 }
 
@@ -38,6 +40,7 @@ impl Words {
             setup,
             lines: self.lines,
             bits: self.bits,
+            guard: self.guard,
             wrong: true,
         }
     }
@@ -46,13 +49,16 @@ impl Words {
         ensures { λ r. ⌜ r ≡ withPart self part ⌝ }
     {
         let setup = self.setup;
+        let guard = setup.guard;
         Words {
             setup: Setup {
                 part,
                 bits: setup.bits,
+                guard,
             },
             lines: true,
             bits: self.bits,
+            guard: self.guard,
             wrong: self.wrong,
         }
     }
@@ -62,10 +68,30 @@ impl Words {
     {
         let setup = self.setup;
         let part = setup.part;
+        let guard = setup.guard;
         Words {
-            setup: Setup { part, bits },
+            setup: Setup { part, bits, guard },
             lines: self.lines,
             bits: true,
+            guard: self.guard,
+            wrong: self.wrong,
+        }
+    }
+
+    fn guarded_by(self, guard: Edition) -> Words
+        ensures { λ r. ⌜ r ≡ guardedBy self guard ⌝ }
+    {
+        let setup = self.setup;
+        let part = setup.part;
+        Words {
+            setup: Setup {
+                part,
+                bits: setup.bits,
+                guard,
+            },
+            lines: self.lines,
+            bits: self.bits,
+            guard: true,
             wrong: self.wrong,
         }
     }
@@ -160,7 +186,22 @@ fn bits_by(words: Words, value: &[u8]) -> Words
     words.mistaken()
 }
 
-// Before the first word: the 55-line chip, three bits.
+fn guard_by(words: Words, value: &[u8]) -> Words
+    ensures { λ r. ⌜ r ≡ guardBy words (now (value .entry)) ⌝ }
+{
+    if words.guard {
+        return words.mistaken();
+    }
+    if same(value, b"pmsav7") {
+        return words.guarded_by(Edition::Pmsav7);
+    }
+    if same(value, b"pmsav8") {
+        return words.guarded_by(Edition::Pmsav8);
+    }
+    words.mistaken()
+}
+
+// Before the first word: the 55-line chip, three bits, the guard of ARMv7-M.
 pub fn start() -> Words
     ensures { λ r. ⌜ r ≡ started ⌝ }
 {
@@ -168,9 +209,11 @@ pub fn start() -> Words
         setup: Setup {
             part: Part::Lines55,
             bits: 3,
+            guard: Edition::Pmsav7,
         },
         lines: false,
         bits: false,
+        guard: false,
         wrong: false,
     }
 }
@@ -184,6 +227,9 @@ pub fn pair(words: Words, word: &[u8], value: &[u8]) -> Words
     }
     if same(word, b"--bits") {
         return bits_by(words, value);
+    }
+    if same(word, b"--guard") {
+        return guard_by(words, value);
     }
     words.mistaken()
 }

@@ -51,7 +51,7 @@ fn is_sized(
 
 // The parts that hold no list.
 fn is_core_sound(chip: Chip, core: Core) -> bool
-    ensures { λ r. ⌜ r ≡ (ltb (core .group) 8 && eqb (keptByte (chip .bits) (core .masks .basepri)) (core .masks .basepri) && soundTimer (core .timer) && soundMpu (core .guard) && soundSystem chip (core .system)) ⌝ }
+    ensures { λ r. ⌜ r ≡ (ltb (core .group) 8 && eqb (keptByte (chip .bits) (core .masks .basepri)) (core .masks .basepri) && soundTimer (core .timer) && soundMpu (chip .guard) (core .guard) && soundSystem chip (core .system)) ⌝ }
 {
     if 8 <= core.group {
         return false;
@@ -65,7 +65,8 @@ fn is_core_sound(chip: Chip, core: Core) -> bool
         return false;
     }
     let guard = core.guard;
-    if !guard.is_sound() {
+    let edition = chip.guard;
+    if !guard.is_sound(edition) {
         return false;
     }
     let system = core.system;

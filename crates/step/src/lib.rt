@@ -61,7 +61,9 @@ pub fn act(
         Event::Entry => entry::entry(pending, active, enabled, priority, nest, core, limit),
         Event::Return(value) => returning::return_(pending, active, level, nest, core, value),
         Event::Access(kind, width, address) => {
-            access::access(core, limit, script::access_number(kind), width, address)
+            let number = script::access_number(kind);
+            let edition = chip.guard;
+            access::access(edition, core, limit, number, width, address)
         }
         Event::Lost(line) => pulses::lost(chip, lost, core, line),
         Event::Skip(count) => lines::ticks::skip(pending, core, count),

@@ -12,23 +12,23 @@ use Rattle.mpu.proofs.regions_kept.Statement.{statement}
 use Rattle.mpu.proofs.regions_kept.Tie as tie
 
 abbrev Inv-loop : tie.InvT-loop
-Inv-loop bases attributes ok₀ i₀ ok i = (i ≤ length attributes) × (ok ≡ every (regionKept bases attributes) i)
+Inv-loop edition bases attributes ok₀ i₀ ok i = (i ≤ length attributes) × (ok ≡ every (regionKept edition bases attributes) i)
 
 abbrev μ-loop : tie.MeasureT-loop
-μ-loop bases attributes ok₀ i₀ ok i = length attributes - i
+μ-loop edition bases attributes ok₀ i₀ ok i = length attributes - i
 
 loop-holds : tie.Need-loop-holds Inv-loop μ-loop
 unfolding every
 loop-holds c = (omega arith, refl)
 
-mul-kept-base : tie.Need-mul-kept-base Inv-loop μ-loop
-mul-kept-base c = omega arith
+mul-kept-first : tie.Need-mul-kept-first Inv-loop μ-loop
+mul-kept-first c = omega arith
 
-shared-slice-read-kept-base : tie.Need-shared-slice-read-kept-base Inv-loop μ-loop
-shared-slice-read-kept-base c = omega arith
+shared-slice-read-kept-first : tie.Need-shared-slice-read-kept-first Inv-loop μ-loop
+shared-slice-read-kept-first c = omega arith
 
-kept-base-requires : tie.Need-kept-base-requires Inv-loop μ-loop
-kept-base-requires c κs = search needs
+kept-first-requires : tie.Need-kept-first-requires Inv-loop μ-loop
+kept-first-requires c κs = search needs
 
 mul-base : tie.Need-mul-base Inv-loop μ-loop
 mul-base c = omega arith
@@ -36,14 +36,14 @@ mul-base c = omega arith
 shared-slice-read-base : tie.Need-shared-slice-read-base Inv-loop μ-loop
 shared-slice-read-base c = omega arith
 
-mul-kept-attributes : tie.Need-mul-kept-attributes Inv-loop μ-loop
-mul-kept-attributes c = omega arith
+mul-kept-second : tie.Need-mul-kept-second Inv-loop μ-loop
+mul-kept-second c = omega arith
 
-shared-slice-read-kept-attributes : tie.Need-shared-slice-read-kept-attributes Inv-loop μ-loop
-shared-slice-read-kept-attributes c = omega arith
+shared-slice-read-kept-second : tie.Need-shared-slice-read-kept-second Inv-loop μ-loop
+shared-slice-read-kept-second c = omega arith
 
-kept-attributes-requires : tie.Need-kept-attributes-requires Inv-loop μ-loop
-kept-attributes-requires c κs = search needs
+kept-second-requires : tie.Need-kept-second-requires Inv-loop μ-loop
+kept-second-requires c κs = search needs
 
 mul-both : tie.Need-mul-both Inv-loop μ-loop
 mul-both c = omega arith
@@ -68,7 +68,7 @@ unfolding every regionKept
 loop-again c =
     let a = c .before .before .before in
     let b = a .before .before .before in
-    (omega arith, c .both2 .ensures ∙ simp (add-one, b .before .before .before .loop .inv .1, c .before .both .ensures, a .kept-attributes .ensures, b .kept-base .ensures))
+    (omega arith, c .both2 .ensures ∙ simp (add-one, b .before .before .before .loop .inv .1, c .before .both .ensures, a .kept-second .ensures, b .kept-first .ensures))
 
 returns : tie.Need-returns Inv-loop μ-loop
 returns c = c .before .loop .inv .1 ∙ ap (every _) (le-antisymm (c .before .loop .inv .0) (c .loop-test .left))
@@ -80,14 +80,14 @@ regions-kept-spec =
     Inv-loop
     μ-loop
     loop-holds
-    mul-kept-base
-    shared-slice-read-kept-base
-    kept-base-requires
+    mul-kept-first
+    shared-slice-read-kept-first
+    kept-first-requires
     mul-base
     shared-slice-read-base
-    mul-kept-attributes
-    shared-slice-read-kept-attributes
-    kept-attributes-requires
+    mul-kept-second
+    shared-slice-read-kept-second
+    kept-second-requires
     mul-both
     shared-slice-read-both
     both-requires

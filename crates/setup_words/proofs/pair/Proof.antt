@@ -5,9 +5,12 @@ use borrow.Author.Needs.{needs}
 use Rattle.setup_words.proofs.pair.Statement.{statement}
 use Rattle.setup_words.proofs.pair.Tie as tie
 
--- where the word is known not to be the first, from where it was compared with the second
+-- where the word is known not to be one, from where it was compared with the next
 abbrev not-lines : tie.After-same2 → tie.Else1
 not-lines c = c .before .before
+
+abbrev not-bits : tie.After-same3 → tie.Else2
+not-bits c = c .before .before
 
 slice-aggregate-same : tie.Need-slice-aggregate-same
 slice-aggregate-same c = search needs
@@ -38,15 +41,33 @@ returns-2 c =
     let a = not-lines b in
     rw (c .bits-by .ensures, sym (a .before .same .ensures), a .if1 .left, sym (b .same2 .ensures), c .before .if2 .taken)
 
-mistaken-requires : tie.Need-mistaken-requires
-mistaken-requires c κs = search needs
+slice-aggregate-same-3 : tie.Need-slice-aggregate-same-3
+slice-aggregate-same-3 c = search needs
+
+same-requires-3 : tie.Need-same-requires-3
+same-requires-3 c κs = search needs
+
+guard-by-requires : tie.Need-guard-by-requires
+guard-by-requires c κs = search needs
 
 returns-3 : tie.Need-returns-3
 unfolding paired
 returns-3 c =
-    let b = c .before .before in
-    let a = not-lines b in
-    rw (c .mistaken .ensures, sym (a .before .same .ensures), a .if1 .left, sym (b .same2 .ensures), c .before .if2 .left)
+    let d = c .before .before in
+    let b = not-bits d in
+    let a = not-lines (b .before) in
+    rw (c .guard-by .ensures, sym (a .before .same .ensures), a .if1 .left, sym (b .before .same2 .ensures), b .if2 .left, sym (d .same3 .ensures), c .before .if3 .taken)
+
+mistaken-requires : tie.Need-mistaken-requires
+mistaken-requires c κs = search needs
+
+returns-4 : tie.Need-returns-4
+unfolding paired
+returns-4 c =
+    let d = c .before .before in
+    let b = not-bits d in
+    let a = not-lines (b .before) in
+    rw (c .mistaken .ensures, sym (a .before .same .ensures), a .if1 .left, sym (b .before .same2 .ensures), b .if2 .left, sym (d .same3 .ensures), c .before .if3 .left)
 
 pub pair-spec : {M : Type 1} → statement M
 pair-spec =
@@ -60,5 +81,9 @@ pair-spec =
     same-requires-2
     bits-by-requires
     returns-2
+    slice-aggregate-same-3
+    same-requires-3
+    guard-by-requires
+    returns-3
     mistaken-requires
-    returns-3)
+    returns-4)

@@ -30,9 +30,18 @@ regions-kept-requires c κs = let l = lengths (at-start c) in l .0 ∙ sym (l .1
 both-requires-2 : tie.Need-both-requires-2
 both-requires-2 c κs = search needs
 
+plain-kept-requires : tie.Need-plain-kept-requires
+plain-kept-requires c κs = search needs
+
+both-requires-3 : tie.Need-both-requires-3
+both-requires-3 c κs = search needs
+
 returns : tie.Need-returns
 unfolding soundMpu
-returns c = let l = lengths (at-start (c .before .before)) in simp (c .both2 .ensures, c .before .regions-kept .ensures, c .before .before .before .before .both .ensures, l .0, l .1, and-true)
+returns c =
+    let words = c .before .before in
+    let sizes = lengths (at-start (words .before .before)) in
+    simp (c .both3 .ensures, c .before .plain-kept .ensures, words .both2 .ensures, words .before .regions-kept .ensures, words .before .before .before .before .both .ensures, sizes .0, sizes .1, and-true)
 
 pub is-sound-spec : {M : Type 1} → statement M
 is-sound-spec =
@@ -43,4 +52,6 @@ is-sound-spec =
     slice-aggregate-regions-kept-2
     regions-kept-requires
     both-requires-2
+    plain-kept-requires
+    both-requires-3
     returns)
