@@ -8,16 +8,23 @@
 #include <stdlib.h>
 #include <string.h>
 
-enum { FLAGS = 256, NEST = 248 }; /* of the chip with 240 lines; the other uses the first places */
+#define INLINE static inline __attribute__((always_inline)) /* for the test of refusal 16, whose loops are compiled for each chip */
 
-enum { PMSAV7, PMSAV8 }; /* the guards */
+enum { FLAGS = 256, NEST = 248 }; /* of the chip with 240 lines; the others use the first places */
 
-typedef struct { int lines, bits, guard; } Setup; /* which chip: its lines, how many of a priority byte's top bits it keeps, its guard */
+enum { M3, M0 }; /* the cores: Cortex-M3 with ARMv7-M, Cortex-M0 with ARMv6-M */
+
+enum { M0_LINES = 32, M0_BITS = 2, M0_CFGCTRL = 0x208 }; /* fixed by the profile */
+
+enum { PMSAV7, PMSAV8, ABSENT }; /* the guards; a Cortex-M0 has none */
+
+/* Which chip: its core, its lines, how many of a priority byte's top bits it keeps, its guard. */
+typedef struct { int core, lines, bits, guard; } Setup;
 
 typedef struct {
     uint8_t pending[FLAGS], active[FLAGS], enabled[FLAGS], level[FLAGS], priority[FLAGS], nest[NEST];
     uint16_t lost[FLAGS]; /* the rises that found the line pending, held at 65,535 */
-    int lines, guard, depth;
+    int core, lines, guard, depth;
     uint32_t kept; /* the bits of a priority byte and of BASEPRI that the chip keeps */
     uint32_t group, basepri, primask, faultmask, npriv, spsel;
     uint32_t st_control, st_reload, st_current, st_count;
@@ -33,10 +40,11 @@ static Answer done(uint32_t v) { return (Answer){0, v}; }
 
 static void fresh(Model *m, Setup setup) {
     memset(m, 0, sizeof *m);
+    m->core = setup.core;
     m->lines = setup.lines;
     m->guard = setup.guard;
     m->kept = 0xFF & ~(0xFFu >> setup.bits);
-    m->cfgctrl = 0x200;
+    m->cfgctrl = setup.core == M0 ? M0_CFGCTRL : 0x200;
 }
 
 static int flags(const Model *m) { return 16 + m->lines; }
@@ -47,9 +55,13 @@ static uint32_t base_mask(const Model *m) { return m->guard == PMSAV8 ? 0xFFFFFF
 
 static uint32_t attributes_mask(const Model *m) { return m->guard == PMSAV8 ? 0xFFFFFFEF : 0x173FFF3F; }
 
+/* The configurable faults: MemManage, BusFault, UsageFault. */
+INLINE int configurable(int core, int n) { return core == M3 && n >= 4 && n <= 6; }
+
 static int full(const Model *m, int n) { return n == 2 ? -2 : n == 3 ? -1 : m->priority[n]; }
 
-/* Bits p:0 are cleared whatever the chip keeps, so bit 0 is never part of a group number, with eight bits too. */
+/* Bits p:0 are cleared whatever the chip keeps, so bit 0 is never part of a group number, with eight bits too. A Cortex-M0 has p = 0 for
+ * ever: the group number of what it keeps is the byte itself. */
 static int grouped(const Model *m, int priority) { return priority < 0 ? priority : priority & ~((2 << m->group) - 1); }
 
 static int execution(const Model *m) {
@@ -83,11 +95,22 @@ static int region_of(const Model *m, uint32_t pair) {
     return (int)(m->guard == PMSAV8 && pair ? (m->mpu_region & ~3u) | pair : m->mpu_region);
 }
 
+/* Whether the Cortex-M0 has the register of the word at `a`. */
+static int on_m0(uint32_t a) {
+    switch (a) {
+    case 0xE000E010: case 0xE000E014: case 0xE000E018: case 0xE000E100: case 0xE000E180: case 0xE000E200: case 0xE000E280:
+    case 0xE000ED00: case 0xE000ED04: case 0xE000ED0C: case 0xE000ED10: case 0xE000ED14: case 0xE000ED1C: case 0xE000ED20:
+        return 1;
+    }
+    return a >= 0xE000E400 && a <= 0xE000E41F;
+}
+
 /* The register of the word at `a`; of a register of lines or of bytes also the first exception number that it shows, of one of a region
  * the region's number, of a plain word which of the two it is. */
 static Register register_at(const Model *m, uint32_t a, int *first) {
     static const Register banks[5] = {ENABLE_SET, ENABLE_CLEAR, PENDING_SET, PENDING_CLEAR, ACTIVE};
     uint32_t line = (a % 0x80) * 8;
+    if (m->core == M0 && !on_m0(a)) return MISSING;
     if (a >= 0xE000E100 && a < 0xE000E380) {
         if (line >= (uint32_t)m->lines) return MISSING;
         *first = 16 + (int)line;
@@ -122,7 +145,9 @@ static Register register_at(const Model *m, uint32_t a, int *first) {
     return MISSING;
 }
 
-static int has_byte(int lines, int n) { return (n >= 4 && n <= 6) || n == 11 || n == 14 || n == 15 || (n >= 16 && n < 16 + lines); }
+INLINE int has_byte(int core, int lines, int n) {
+    return configurable(core, n) || n == 11 || n == 14 || n == 15 || (n >= 16 && n < 16 + lines);
+}
 
 static uint32_t flags_word(const Model *m, const uint8_t *flag, int first) {
     uint32_t w = 0;
@@ -141,13 +166,13 @@ static uint32_t read_register(Model *m, Register r, int first) {
     case PENDING_SET: case PENDING_CLEAR: return flags_word(m, m->pending, first);
     case ACTIVE: return flags_word(m, m->active, first);
     case BYTES:
-        for (int i = 0; i < 4; i++) if (has_byte(m->lines, first + i)) w |= (uint32_t)m->priority[first + i] << 8 * i;
+        for (int i = 0; i < 4; i++) if (has_byte(m->core, m->lines, first + i)) w |= (uint32_t)m->priority[first + i] << 8 * i;
         return w;
-    case CPUID: return 0x412FC230;
+    case CPUID: return m->core == M0 ? 0x410CC200 : 0x412FC230;
     case INTCTRL: {
-        uint32_t any = 0;
+        uint32_t any = 0, few = m->core == M3 && m->depth < 2;
         for (int n = 16; n < flags(m); n++) any |= m->pending[n];
-        return (uint32_t)m->pending[2] << 31 | m->pending[14] << 28 | m->pending[15] << 26 | any << 22 | (m->depth < 2) << 11 | top(m);
+        return (uint32_t)m->pending[2] << 31 | m->pending[14] << 28 | m->pending[15] << 26 | any << 22 | few << 11 | top(m);
     }
     case VTABLE: return m->vtable;
     case APINT: return 0xFA050000 | m->group << 8;
@@ -172,7 +197,7 @@ static uint32_t read_register(Model *m, Register r, int first) {
     return 0;
 }
 
-static void write_byte(Model *m, int n, uint32_t v) { if (has_byte(m->lines, n)) m->priority[n] = (uint8_t)(v & m->kept); }
+static void write_byte(Model *m, int n, uint32_t v) { if (has_byte(m->core, m->lines, n)) m->priority[n] = (uint8_t)(v & m->kept); }
 
 static void write_register(Model *m, Register r, int first, uint32_t v) {
     switch (r) {
@@ -198,9 +223,9 @@ static void write_register(Model *m, Register r, int first, uint32_t v) {
         if (v >> 25 & 1) m->pending[15] = 0;
         break;
     case VTABLE: m->vtable = v & vtable_mask(m); break;
-    case APINT: if (v >> 16 == 0x05FA) m->group = v >> 8 & 7; break;
+    case APINT: if (m->core == M3 && v >> 16 == 0x05FA) m->group = v >> 8 & 7; break;
     case SYSCTRL: m->sysctrl = v & 0x16; break;
-    case CFGCTRL: m->cfgctrl = v & 0x31A; break;
+    case CFGCTRL: if (m->core == M3) m->cfgctrl = v & 0x31A; break;
     case SYSHNDCTRL: for (int i = 0; i < 3; i++) m->enabled[4 + i] = v >> (16 + i) & 1; break;
     case FAULTSTAT: m->faultstat &= ~v; break;
     case HFAULTSTAT: m->hfaultstat &= ~v; break;
@@ -223,7 +248,7 @@ static uint32_t check(const Model *m, int free, uint32_t w, uint32_t a, Register
     if (!privileged(m) && !free) return 3;
     *r = register_at(m, a & ~3u, first);
     if (*r == MISSING) return 4;
-    if (w != 4 && !(w == 1 && *r == BYTES)) return 5;
+    if (w != 4 && !(w == 1 && *r == BYTES && m->core == M3)) return 5;
     return 0;
 }
 
@@ -285,24 +310,30 @@ static Answer skip_event(Model *m, uint32_t count) {
 static Answer raise(Model *m, int n) {
     if (is_enabled(m, n) && grouped(m, full(m, n)) < execution(m)) { m->pending[n] = 1; return done((uint32_t)n); }
     m->pending[3] = 1;
-    m->hfaultstat |= 1u << 30;
+    if (m->core == M3) m->hfaultstat |= 1u << 30;
     return done(3);
+}
+
+/* What the core notes of a fault. A Cortex-M0 keeps neither status nor address. */
+static void note(Model *m, uint32_t bit, uint32_t address) {
+    if (m->core == M0) return;
+    m->faultstat |= 1u << bit;
+    if (bit == 1) { m->faultstat |= 1u << 7; m->mmaddr = address; }
+    if (bit == 9) { m->faultstat |= 1u << 15; m->faultaddr = address; }
 }
 
 static Answer fault_event(Model *m, uint32_t bit, uint32_t address) {
     int n = bit <= 1 ? 4 : bit == 8 || bit == 9 ? 5 : (bit >= 16 && bit <= 19) || bit == 24 || bit == 25 ? 6 : 0;
     if (!n) return refuse(7);
     if (execution(m) < 0) return refuse(10);
-    m->faultstat |= 1u << bit;
-    if (bit == 1) { m->faultstat |= 1u << 7; m->mmaddr = address; }
-    if (bit == 9) { m->faultstat |= 1u << 15; m->faultaddr = address; }
+    note(m, bit, address);
     return raise(m, n);
 }
 
 static Answer svc_event(Model *m) { return execution(m) < 0 ? refuse(10) : raise(m, 11); }
 
 static Answer special_event(Model *m, uint32_t which, uint32_t v) {
-    if (which > 4) return refuse(6);
+    if (which > 4 || (m->core == M0 && which >= 1 && which <= 3)) return refuse(6);
     if (!privileged(m)) return done(0);
     uint32_t b = v & m->kept; /* both tests of BASEPRI_MAX are made on what is left */
     switch (which) {
@@ -310,7 +341,10 @@ static Answer special_event(Model *m, uint32_t which, uint32_t v) {
     case 1: if (!(v & 1) || execution(m) >= 0) m->faultmask = v & 1; break;
     case 2: m->basepri = b; break;
     case 3: if (b && (b < m->basepri || !m->basepri)) m->basepri = b; break;
-    case 4: m->npriv = v & 1; if (!m->depth) m->spsel = v >> 1 & 1; break;
+    case 4:
+        if (m->core == M3) m->npriv = v & 1;
+        if (!m->depth) m->spsel = v >> 1 & 1;
+        break;
     }
     return done(0);
 }
@@ -392,6 +426,7 @@ static int permits(const Model *m, uint32_t kind, uint32_t a) {
 }
 
 static Answer access_event(const Model *m, uint32_t kind, uint32_t w, uint32_t a) {
+    if (m->core == M0) return refuse(19);
     if (kind > 2) return refuse(6);
     if (kind == 2 ? w != 2 : w != 1 && w != 2 && w != 4) return refuse(1);
     if (a % w) return refuse(2);
@@ -435,49 +470,58 @@ static Answer step(Model *m, uint32_t kind, const uint32_t *a) {
     }
 }
 
-/* ---- the test of refusal 16. It goes over every place before every event: the loops are compiled for each chip. */
-
-#define INLINE static inline __attribute__((always_inline))
+/* ---- the test of refusal 16. It goes over every place before every event. */
 
 static int is_line(int n) { return n >= 16; }
 
-static int is_exception(int lines, int n) { return n == 2 || n == 3 || has_byte(lines, n); }
+INLINE int is_exception(int core, int lines, int n) { return n == 2 || n == 3 || has_byte(core, lines, n); }
 
-INLINE int sound_numbers(const Model *m, int lines) {
+INLINE int sound_numbers(const Model *m, int core, int lines) {
     for (int n = 0; n < 16 + lines; n++) {
-        if ((m->pending[n] || m->active[n]) && !is_exception(lines, n)) return 0;
-        if (m->enabled[n] && !(n >= 4 && n <= 6) && !is_line(n)) return 0;
+        if ((m->pending[n] || m->active[n]) && !is_exception(core, lines, n)) return 0;
+        if (m->enabled[n] && !configurable(core, n) && !is_line(n)) return 0;
         if (m->level[n] && !is_line(n)) return 0;
-        if (m->priority[n] & ~(has_byte(lines, n) ? m->kept : 0)) return 0;
+        if (m->priority[n] & ~(has_byte(core, lines, n) ? m->kept : 0)) return 0;
     }
     for (int n = 0; !is_line(n); n++) if (m->lost[n]) return 0; /* apart: the loop over every number would be slower */
     return 1;
 }
 
-INLINE int sound_nest(const Model *m, int lines) {
-    int actives = 0;
-    if (m->depth > 8 + lines) return 0;
+INLINE int sound_nest(const Model *m, int core, int lines) {
+    int actives = 0, exceptions = (core == M0 ? 5 : 8) + lines;
+    if (m->depth > exceptions) return 0;
     for (int i = 0; i < m->depth; i++) {
         if (m->nest[i] >= 16 + lines || !m->active[m->nest[i]]) return 0;
         for (int j = 0; j < i; j++) if (m->nest[j] == m->nest[i]) return 0;
     }
-    for (int i = m->depth; i < 8 + lines; i++) if (m->nest[i]) return 0;
+    for (int i = m->depth; i < exceptions; i++) if (m->nest[i]) return 0;
     for (int n = 0; n < 16 + lines; n++) actives += m->active[n];
     return actives == m->depth;
 }
 
 static int sound_lists(const Model *m) {
-    return m->lines == 55 ? sound_numbers(m, 55) && sound_nest(m, 55) : sound_numbers(m, 240) && sound_nest(m, 240);
+    return m->lines == 55 ? sound_numbers(m, M3, 55) && sound_nest(m, M3, 55) : sound_numbers(m, M3, 240) && sound_nest(m, M3, 240);
 }
 
-static int sound(const Model *m) {
+/* What a Cortex-M0 lacks is 0, and CFGCTRL is a constant. Not inlined: the code around it would be slower. */
+static __attribute__((noinline)) int sound_m0(const Model *m) {
+    uint32_t any = m->mpu_control | m->mpu_region | m->mpu_plain[0] | m->mpu_plain[1];
+    for (int i = 0; i < 8; i++) any |= m->mpu_base[i] | m->mpu_attributes[i];
+    any |= m->group | m->basepri | m->faultmask | m->npriv | m->vtable | m->faultstat | m->hfaultstat | m->mmaddr | m->faultaddr;
+    return !any && m->cfgctrl == M0_CFGCTRL && sound_numbers(m, M0, M0_LINES) && sound_nest(m, M0, M0_LINES);
+}
+
+static int sound_m3(const Model *m) {
     if (!sound_lists(m) || m->group > 7 || m->basepri & ~m->kept) return 0;
-    if (m->st_control > 7 || m->st_reload > 0xFFFFFF || m->st_current > 0xFFFFFF) return 0;
     if (m->mpu_control > 7 || m->mpu_region > 7) return 0;
     for (int i = 0; i < 8; i++) if (m->mpu_base[i] & ~base_mask(m) || m->mpu_attributes[i] & ~attributes_mask(m)) return 0;
     if (m->guard == PMSAV7 && (m->mpu_plain[0] || m->mpu_plain[1])) return 0;
-    return !(m->vtable & ~vtable_mask(m) || m->sysctrl & ~0x16u || m->cfgctrl & ~0x31Au || m->faultstat & ~0x030F8383u
-        || m->hfaultstat & ~0x40000000u);
+    return !(m->vtable & ~vtable_mask(m) || m->cfgctrl & ~0x31Au || m->faultstat & ~0x030F8383u || m->hfaultstat & ~0x40000000u);
+}
+
+static int sound(const Model *m) {
+    if (m->st_control > 7 || m->st_reload > 0xFFFFFF || m->st_current > 0xFFFFFF || m->sysctrl & ~0x16u) return 0;
+    return m->core == M0 ? sound_m0(m) : sound_m3(m);
 }
 
 static char out[1 << 16];
@@ -506,7 +550,7 @@ static void put_line(uint32_t number, Answer r, const Model *m) {
 /* Runs the script once; the refusal that breaks it, with the place, or 0. The setup is tested before anything of the script. */
 static uint32_t run(Setup setup, const uint8_t *s, size_t n, int print, uint64_t *sum, size_t *bad) {
     Model m;
-    if (setup.bits < 3 || setup.bits > 8) { *bad = 0; return 17; }
+    if (setup.core == M3 && (setup.bits < 3 || setup.bits > 8)) { *bad = 0; return 17; }
     if (n > 65536) { *bad = 65536; return 15; }
     fresh(&m, setup);
     size_t at = 0;
@@ -537,19 +581,23 @@ static int decimal(const char *text) {
 
 /* What the words after the program's name say; 0 where one is unknown or given twice, or its value is missing or wrong. */
 static int words(int argc, char **argv, Setup *setup, long *times) {
-    *setup = (Setup){0, -1, -1}; /* none is given yet; 0 bits may be given */
+    *setup = (Setup){-1, 0, -1, -1}; /* none is given yet; 0 bits may be given */
     for (int i = 1; i < argc; i += 2) {
         const char *word = argv[i], *value = i + 1 < argc ? argv[i + 1] : "";
-        if (!strcmp(word, "--lines") && !setup->lines && (!strcmp(value, "55") || !strcmp(value, "240"))) setup->lines = atoi(value);
+        if (!strcmp(word, "--core") && setup->core < 0 && !strcmp(value, "m3")) setup->core = M3;
+        else if (!strcmp(word, "--core") && setup->core < 0 && !strcmp(value, "m0")) setup->core = M0;
+        else if (!strcmp(word, "--lines") && !setup->lines && (!strcmp(value, "55") || !strcmp(value, "240"))) setup->lines = atoi(value);
         else if (!strcmp(word, "--bits") && setup->bits < 0 && decimal(value) >= 0) setup->bits = decimal(value);
         else if (!strcmp(word, "--guard") && setup->guard < 0 && !strcmp(value, "pmsav7")) setup->guard = PMSAV7;
         else if (!strcmp(word, "--guard") && setup->guard < 0 && !strcmp(value, "pmsav8")) setup->guard = PMSAV8;
         else if (!strcmp(word, "--times") && !*times && atol(value) > 0) *times = atol(value);
         else return 0;
     }
+    if (setup->core < 0) setup->core = M3;
     if (!setup->lines) setup->lines = 55;
     if (setup->bits < 0) setup->bits = 3;
     if (setup->guard < 0) setup->guard = PMSAV7;
+    if (setup->core == M0) *setup = (Setup){M0, M0_LINES, M0_BITS, ABSENT}; /* whatever else is given */
     return 1;
 }
 
@@ -558,7 +606,7 @@ int main(int argc, char **argv) {
     Setup setup;
     long times = 0;
     if (!words(argc, argv, &setup, &times)) {
-        printf("usage: simulate [--lines 55|240] [--bits N] [--guard pmsav7|pmsav8]\n");
+        printf("usage: simulate [--core m3|m0] [--lines 55|240] [--bits N] [--guard pmsav7|pmsav8]\n");
         return 0;
     }
     size_t n = fread(script, 1, sizeof script, stdin), bad = 0;

@@ -1,10 +1,10 @@
 """Random scripts of the events of documents 01 and 02, the same for the same seed: mostly sensible arguments, some out of range.
 
-A script is made for a chip of 55 or 240 lines and may be run on either, whatever it keeps of a priority byte and whichever guard it has.
-Those for 55 lines that keep no proviso, have no deep nest and are not about the memory guard, regions of blocks, priorities near each
-other, lost pulses or idle time stay what they are, so that measurements can be compared. Counts of lost pulses (kind 12) are asked for only
-in the scripts about these, and time is skipped (kind 13) only in those about idle time. Scripts about priorities, pulses or idle time name
-no register of the guard and ask for no verdict.
+A script is made for a chip of 55 or 240 lines, or for the Cortex-M0, and may be run on any, whatever it keeps of a priority byte and
+whichever guard it has. Those for 55 lines that keep no proviso, have no deep nest and are not about the memory guard, regions of blocks,
+priorities near each other, lost pulses or idle time stay what they are, so that measurements can be compared. Counts of lost pulses (kind
+12) are asked for only in the scripts about these and in those for the Cortex-M0, and time is skipped (kind 13) only in those about idle
+time and in those for the Cortex-M0. Scripts about priorities, pulses or idle time name no register of the guard and ask for no verdict.
 """
 import random
 
@@ -21,6 +21,13 @@ EDGES = {55: [55], 240: [54, 55, 239, 240, 255, 256]}  # lines at the chips' end
 PAST = [54, 55, 239, 240, 255, 256, 0xFFFFFFFF]  # the same, whatever the chip
 GUARD = range(0xE000ED90, 0xE000EDCC, 4)  # the registers of the newer guard, with EDBC and EDC8, which are none
 PLACES = [0x20000000] * 4 + [0, 0x40000000, 0x60000000, 0xA0000000, 0xE0000000, 0xE0100000]  # regions of blocks lie around them
+
+# The words of the Cortex-M0's registers, and words that it lacks: registers of the other chips, words beside its own, its own elsewhere.
+M0_BYTES = [*range(0xE000E400, 0xE000E420, 4), 0xE000ED1C, 0xE000ED20]
+M0_WORDS = [STCTRL, STRELOAD, STCURRENT, *BANKS[:4], *M0_BYTES, 0xE000ED00, INTCTRL, 0xE000ED0C, 0xE000ED10, 0xE000ED14]
+NOT_M0 = [BANKS[4], 0xE000E004, 0xE000ED08, 0xE000ED18, *range(0xE000ED24, 0xE000ED3C, 4), SWTRIG] * 2
+NOT_M0 += [*GUARD, *(b + 4 for b in BANKS), 0xE000E000, 0xE000E00C, 0xE000E01C, 0xE000E0FC, 0xE000E3FC, 0xE000E420, 0xE000E434, 0xE000E4EC]
+NOT_M0 += [0xE000ECFC, 0xE000ED3C, 0xE000EEFC, 0xE000EF04, 0x20000000, 0xE010, 0xED04, 0x4000E100, 0xE001E400, 0xE000FD1C]
 
 # What E4's proviso leaves out, first and last byte. The word at E434 reaches into the last of them.
 NOT_OLD = [(0xE000E004, 0xE000E004), *((b + 4, b + 0x1F) for b in BANKS), (0xE000E437, 0xE000E4EF), (0xE000ED08, 0xE000ED08)]
@@ -380,6 +387,98 @@ def idle(r, lines):
         yield [10, 0xFFFFFFF9]
 
 
+def m0_value(r, address):
+    """What is written at a register of the Cortex-M0: what sets a few things, or anything."""
+    if address == INTCTRL:
+        return r.choice([1 << 28, 1 << 28, 1 << 26, 1 << 26, 1 << 27, 1 << 25, 3 << 27, 3 << 25, 1 << 31, word(r), word(r) % 2**31])
+    few = {STCTRL: r.randrange(8), STRELOAD: r.randrange(8), 0xE000ED0C: 0x05FA0000 | r.getrandbits(16)}
+    usual = few.get(address, 1 << r.randrange(32) if address in BANKS else r.getrandbits(32))
+    return r.choice([usual, usual, word(r)])
+
+
+def at_m0(r):
+    """A register of the Cortex-M0 is read, or written and often read; or no whole word, or no register of its own, which is refused."""
+    own, other, what = r.choice([*M0_WORDS, INTCTRL, INTCTRL, INTCTRL]), r.choice(NOT_M0), r.randrange(16)
+    if what < 10:
+        read, write = [1, 4, own], [2, 4, own, m0_value(r, own)]
+        return r.choice([[read], [read, read], [write], [write, read], [write, read]])
+    near = r.choice([own, r.choice(M0_BYTES), other]) + r.randrange(4)
+    width, address = (4, other) if what < 13 else (r.choice([1, 1, 1, 2, 3, 4]), near)
+    return [r.choice([[1, width, address], [2, width, address, word(r)]])]
+
+
+def no_verdict(r):
+    """An access of any kind, width and place, which the Cortex-M0 refuses whatever they are."""
+    return [11, r.choice([0, 1, 2, 3, 0xFFFFFFFF]), r.choice([0, 1, 2, 2, 3, 4]), r.choice([word(r), *NOT_M0]) // r.choice([1, 1, 2, 3])]
+
+
+def any_special(r):
+    """PRIMASK, mostly cleared, or any special register, of which the Cortex-M0 has two."""
+    return r.choice([[8, 0, r.choice([0, 0, 0, 1])], [8, r.choice([4, *range(6), 0xFFFFFFFF]), r.choice([0, 1, 2, 3, word(r)])]])
+
+
+def set_m0(r, few):
+    """Priorities of most of the few lines and of the system exceptions; the few enabled with others, seldom only others; often a timer."""
+    words = [0xE000E400 + line // 4 * 4 for line in few] + M0_BYTES[-2:]
+    yield from ([2, 4, address, r.getrandbits(32)] for address in r.sample(words, len(words) - r.choice([0, 0, 1])))
+    enabled = sum(1 << line for line in set(few)) if r.randrange(8) else 0
+    yield [2, 4, 0xE000E100, enabled | r.choice([0, r.getrandbits(32)])]
+    yield from r.choice([[], timer(r, 0, r.randrange(8))])
+
+
+def m0_event(r, few):
+    """An event or two for the Cortex-M0, of each kind: mostly about the few lines, their entry and their return."""
+    what, line = r.randrange(48), r.choice([*few * 4, 30, 31, 32, 33, r.choice(PAST)])
+    if what < 9:
+        return [[3, line, r.choice([0, 0, 0, 1, 1, 1, 1, 2])]]
+    if what < 11:
+        return [by_software(r, r.choice(few)), [1, 4, r.choice(BANKS[:4])]]
+    if what < 22:
+        return at_m0(r)
+    if what < 23:
+        return [[6, r.choice(FAULTS), r.getrandbits(32)]]
+    if what < 24:
+        return [r.choice([[7], [7], [4]])]
+    if what < 26:
+        return [any_special(r)]
+    if what < 27:
+        return [no_verdict(r)]
+    if what < 29:
+        return [r.choice([[5], [5], [13, r.randrange(12)], [13, word(r)]])]
+    if what < 30:
+        return [[12, line]]
+    return [[9]] if what < 39 else [[10, r.choice([0xFFFFFFF1] * 4 + [0xFFFFFFF9] * 3 + LINKS)]]
+
+
+def m0_nest(r):
+    """Events that nest many of the Cortex-M0's exceptions, often all, as `nest` does: its priority bytes are written as whole words."""
+    yield [2, 4, 0xE000E100, 0xFFFFFFFF]
+    arrivals = [([3, line, 1], 0xE000E400 + line) for line in range(32)]
+    arrivals += [([7], 0xE000ED1F), ([2, 4, INTCTRL, 1 << 28], 0xE000ED22), ([2, 4, INTCTRL, 1 << 26], 0xE000ED23)]
+    for arrival, byte in r.sample(arrivals, r.choice([len(arrivals), r.randrange(len(arrivals))])):
+        place, lowest = byte // 4 * 4, 0xC0C0C0C0
+        yield from ([2, 4, place, lowest & ~(0xFF << byte % 4 * 8)], arrival, [9], [2, 4, place, lowest])
+    if r.randrange(2):
+        yield from ([6, r.choice(FAULTS[:10]), 0], [9], [4], [9])
+
+
+def small(r, deep):
+    """Whatever the Cortex-M0 can do and what it refuses, over and over, with one to four lines more often than the others; then often all
+    registers are read, the mask is cleared and the handlers are left. On the other chips the same goes on as privileged."""
+    if deep:
+        yield from m0_nest(r)
+    while True:
+        few = [r.randrange(32) for _ in range(r.choice([1, 2, 4]))]
+        yield from set_m0(r, few)
+        for _ in range(r.randrange(20, 80)):
+            yield from m0_event(r, few)
+        if r.randrange(2):
+            yield from ([1, 4, address] for address in M0_WORDS)
+        yield from ([8, 0, 0], *([10, 0xFFFFFFF1] for _ in range(r.randrange(3, 9))), [10, 0xFFFFFFF9])
+        if r.randrange(2):
+            yield from ([7], [9], [8, 4, 0], [10, 0xFFFFFFF9])
+
+
 def is_old(event):
     """Whether E4's proviso lets the event stand in an old script."""
     if event[0] in (3, 12):
@@ -402,15 +501,17 @@ def events(r, lines, deep):
             yield shown(*one[1:])
 
 
-def about(r, lines, deep=False, guard=False, blocks=False, bits=False, pulses=False, skips=False):
+def about(r, lines, deep=False, guard=False, blocks=False, bits=False, pulses=False, skips=False, m0=False):
     if guard or blocks:
         return guarded(r) if guard else covered(r)
+    if m0:
+        return small(r, deep)
     return prioritised(r, lines) if bits else pulsed(r, lines) if pulses else idle(r, lines) if skips else events(r, lines, deep)
 
 
 def script(seed, length, lines=55, old=False, **asked):
-    """At most `length` bytes of whole events; only those of an old script, with a deep nest first, or about the guard, regions of blocks,
-    priorities near each other, lost pulses or idle time, if so asked."""
+    """At most `length` bytes of whole events; only those of an old script, with a deep nest first, about the guard, regions of blocks,
+    priorities near each other, lost pulses or idle time, or for the Cortex-M0, if so asked."""
     out, r = bytearray(), random.Random(seed)
     for one in about(r, lines, **asked):
         if old and not is_old(one):

@@ -2,11 +2,12 @@
 ghost use mathlib.Core.Path.{_≡_};
 ghost use Rattle.rules.specs.Model.{Model, withCore};
 ghost use Rattle.rules.specs.Lent.{answer};
-ghost use Rattle.rules.specs.Access.{purposeOf, fitsAccess, accessAt};
+ghost use Rattle.rules.specs.Access.{purposeOf, fitsAccess, accessAt, accessBy};
 use mpu::Edition;
 use parts::accepted;
 use parts::is_privileged;
 use parts::refused;
+use rules::Chip;
 use rules::Core;
 use rules::Outcome;
 use verdicts::Access;
@@ -33,14 +34,7 @@ fn purpose_of(kind: u32) -> Access
 }
 
 // `edition` is that of the chip's guard, `limit` the execution priority.
-pub fn access(
-    edition: Edition,
-    core: Core,
-    limit: i32,
-    kind: u32,
-    width: u32,
-    address: u32,
-) -> Outcome
+fn access(edition: Edition, core: Core, limit: i32, kind: u32, width: u32, address: u32) -> Outcome
     ensures { λ r. ⌜ ((m : Model) → answer r m ≡ accessAt edition limit (withCore core m) kind width address) ⌝ }
 {
     if 2 < kind {
@@ -63,4 +57,15 @@ pub fn access(
         return refused(core, 2);
     }
     refused(core, 1)
+}
+
+// By the chip's guard; ARMv6-M has none.
+pub fn access_by(chip: Chip, core: Core, limit: i32, kind: u32, width: u32, address: u32) -> Outcome
+    ensures { λ r. ⌜ ((m : Model) → answer r m ≡ accessBy chip limit (withCore core m) kind width address) ⌝ }
+{
+    if chip.is_armv6m() {
+        return refused(core, 19);
+    }
+    let edition = chip.guard;
+    access(edition, core, limit, kind, width, address)
 }

@@ -15,7 +15,7 @@ use Rattle.any_chip.specs.ViewLaws.{Sized}
 use Rattle.any_chip.specs.Demand1.{Refused, CodeDemand1}
 use Rattle.any_chip.proofs.View.{view-laws}
 
-replied : (e : Event) (s : State) → Sized s → {a : Answer} → (a .refusal ≡ 0) ⊎ rules.Refused e (model s) a → (reply (s .setup) a .refusal ≡ 0) ⊎ Refused e s (reply (s .setup) a)
+replied : (e : Event) (s : State) → Sized s → {a : Answer} → (a .refusal ≡ 0) ⊎ rules.Refused (chipOf (s .setup)) e (model s) a → (reply (s .setup) a .refusal ≡ 0) ⊎ Refused e s (reply (s .setup) a)
 replied e s z (inl q) = inl q
 replied e s z (inr r) =
     inr (record {

@@ -1,12 +1,12 @@
--- The rules' theorem at a setup's chip, which fits where w is from 3 to 8.
+-- The rules' theorem at a setup's chip, which fits where w is from 3 to 8 or the profile fixes it.
 use Prim.Native.Nat.{ℕ, _≤_}
-use mathlib.Core.Path.{ap, _∙_}
+use mathlib.Core.Path.{refl, ap, _∙_}
 use mathlib.Core.List.{map}
 use lib.Dec.{T}
 use Rattle.mpu.specs.declared.Edition.{Edition}
 use Rattle.rules.specs.declared.Part.{Part}
-use Rattle.rules.specs.declared.Part.the-variants.{Lines55, Lines240}
-use Rattle.rules.specs.Chip.{partChip, chipOf, fits}
+use Rattle.rules.specs.declared.Part.the-variants.{Lines55, Lines240, CortexM0}
+use Rattle.rules.specs.Chip.{chip55, chip240, chipOf, fits}
 use Rattle.rules.specs.PriorityBits.{from-3-to-8, misfit-first}
 use Rattle.demand3.proofs.Demand3.{most-nested}
 use Rattle.any_chip.specs.declared.State.{State}
@@ -17,7 +17,9 @@ use Rattle.any_chip.proofs.View.{view-laws}
 use Rattle.any_chip.proofs.Demand3.{called-fresh, code-demand3}
 
 setup-fits : (part : Part) (guard : Edition) (w : ℕ) → 3 ≤ w → w ≤ 8 → T (fits (chipOf (keeping part guard w)))
-setup-fits part guard w low high = from-3-to-8 (partChip part) w low high
+setup-fits Lines55 guard w low high = from-3-to-8 chip55 w refl low high
+setup-fits Lines240 guard w low high = from-3-to-8 chip240 w refl low high
+setup-fits CortexM0 guard w low high = tt
 
 pub code-priority-bits : CodePriorityBits
 code-priority-bits =

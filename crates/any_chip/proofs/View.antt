@@ -12,10 +12,10 @@ use Rattle.bools.specs.Tests.{by-cases}
 use Rattle.script.specs.declared.Event.{Event}
 use Rattle.rules.specs.declared.Chip.{Chip}
 use Rattle.rules.specs.declared.Part.{Part}
-use Rattle.rules.specs.declared.Part.the-variants.{Lines55, Lines240}
+use Rattle.rules.specs.declared.Part.the-variants.{Lines55, Lines240, CortexM0}
 use Rattle.rules.specs.declared.Setup.{Setup}
 use Rattle.rules.specs.declared.Core.{Core}
-use Rattle.rules.specs.Chip.{partChip, withBits, withEdition, chipOf, fits, flagCount, exceptionCount}
+use Rattle.rules.specs.Chip.{partChip, chipOf, fits, flagCount, exceptionCount}
 use Rattle.rules.specs.Model.{Model, Answer, fresh, freshCore}
 use Rattle.rules.specs.Lent.{modelOf}
 use Rattle.rules.specs.Sound.{isSound, Sound}
@@ -36,23 +36,26 @@ use Rattle.places.proofs.Laws.{reach-fits, put, whole, free-byte, free-pending,
 pub few-lines : (s : Setup) → FewLines (chipOf s)
 few-lines s = few (s .part)
   where
-    few : (p : Part) → FewLines (withEdition (s .guard) (withBits (s .bits) (partChip p)))
+    few : (p : Part) → FewLines (partChip p (s .bits) (s .guard))
     few Lines55 = record { lines = omega arith }
     few Lines240 = record { lines = omega arith }
+    few CortexM0 = record { lines = omega arith }
 
 pub flags-fit : (s : Setup) → flagCount (chipOf s) ≤ 256
 flags-fit s = fit (s .part)
   where
-    fit : (p : Part) → flagCount (partChip p) ≤ 256
+    fit : (p : Part) → flagCount (partChip p (s .bits) (s .guard)) ≤ 256
     fit Lines55 = omega arith
     fit Lines240 = omega arith
+    fit CortexM0 = omega arith
 
 pub nest-fits : (s : Setup) → exceptionCount (chipOf s) ≤ 248
 nest-fits s = fit (s .part)
   where
-    fit : (p : Part) → exceptionCount (partChip p) ≤ 248
+    fit : (p : Part) → exceptionCount (partChip p (s .bits) (s .guard)) ≤ 248
     fit Lines55 = omega arith
     fit Lines240 = omega arith
+    fit CortexM0 = omega arith
 
 pub lines-fit : (s : Setup) → chipOf s .lines ≤ 240
 lines-fit s = few-lines s .lines
@@ -60,9 +63,10 @@ lines-fit s = few-lines s .lines
 pub setup-blocks : (s : Setup) → Blocks (chipOf s)
 setup-blocks s = blocks (s .part)
   where
-    blocks : (p : Part) → Blocks (withEdition (s .guard) (withBits (s .bits) (partChip p)))
+    blocks : (p : Part) → Blocks (partChip p (s .bits) (s .guard))
     blocks Lines55 = record { flags = inl (omega arith); nest = inl (omega arith); lost = inl (omega arith) }
     blocks Lines240 = record { flags = inr refl; nest = inr refl; lost = inr refl }
+    blocks CortexM0 = record { flags = inl (omega arith); nest = inl (omega arith); lost = inl (omega arith) }
 
 -- ---- what is lent is the view's, and within its array
 
@@ -165,7 +169,7 @@ fresh-list size n clear h =
 abbrev clearState : Setup → Core → State
 clearState s k = record { setup = s; pending = replicate 256 false; active = replicate 256 false; enabled = replicate 256 false; level = replicate 256 false; priority = replicate {A = ℕ} 256 0; nest = replicate {A = ℕ} 248 0; lost = replicate {A = ℕ} 240 0; core = k }
 
-pub fresh-state : (s : Setup) (k : Core) → k ≡ freshCore → clearState s k ≡ state s (fresh (chipOf s))
+pub fresh-state : (s : Setup) (k : Core) → k ≡ freshCore (chipOf s) → clearState s k ≡ state s (fresh (chipOf s))
 unfolding fresh
 fresh-state s k q =
     let flags : replicate 256 false ≡ padded 256 false (replicate (flagCount (chipOf s)) false) = fresh-list 256 (flagCount (chipOf s)) false (flags-fit s) in

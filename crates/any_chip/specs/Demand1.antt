@@ -16,7 +16,7 @@ use Rattle.any_chip.specs.ViewLaws.{Sized}
 
 -- "A refusal returns its number with every other field 0 and changes nothing."
 pub record Refused (e : Event) (s : State) (r : Reply) : Type 0 where
-  pub number : T (isIn (r .refusal) (refusals e))
+  pub number : T (isIn (r .refusal) (refusals (chipOf (s .setup)) e))
   pub value : r .value ≡ 0
   pub vector : r .vector ≡ 0
   pub link : r .link ≡ 0

@@ -3,7 +3,7 @@
 use Prim.Native.Nat.{ℕ, _%_}
 use mathlib.Core.Path.{_≡_}
 use mathlib.Core.Logic.{_⊎_}
-use mathlib.Core.Bool.{cond}
+use mathlib.Core.Bool.{false, cond}
 use lib.ListN.{getD}
 use lib.Dec.{T}
 use Rattle.mpu.specs.declared.Mpu.{Mpu}
@@ -12,7 +12,7 @@ use Rattle.verdicts.specs.declared.Access.{Access}
 use Rattle.verdicts.specs.Verdict.{background, faultOf, verdict}
 use Rattle.editions.specs.Pmsav8.{Nowhere, Once, Twice, coverAllows}
 use Rattle.editions.specs.Pmsav8Laws.{Covered, Reordered}
-use Rattle.rules.specs.Chip.{chipOf, fits}
+use Rattle.rules.specs.Chip.{isArmv6m, chipOf, fits}
 use Rattle.rules.specs.Model.{putGuard}
 use Rattle.rules.specs.Priorities.{execution, isNegative, privileged}
 use Rattle.rules.specs.Sound.{Sound}
@@ -24,9 +24,10 @@ use Rattle.any_chip.specs.declared.Reply.{Reply}
 use Rattle.any_chip.specs.View.{model, reply}
 use Rattle.any_chip.specs.ViewLaws.{Sized}
 
--- r is what the call `access` hands back on a sound state, for an access of its width at a multiple of it
+-- r is what the call `access` hands back on a sound state of a chip that has a guard, for an access of its width at a multiple of it
 pub record Asked (s : State) (access : Access) (w a : ℕ) (r : Reply) : Type 0 where
   pub sized : Sized s
+  pub has-guard : isArmv6m (chipOf (s .setup)) ≡ false
   pub fit : T (fits (chipOf (s .setup)))
   pub sound : Sound (chipOf (s .setup)) (model s)
   pub width : T (fitsAccess (number access) w)

@@ -30,7 +30,8 @@ AtMost setup bare =
     (es : List Event) (rs : List Reply) (t : State) → Called (state setup (fresh (chipOf setup))) es rs t → length (ledger [] es (map answer rs)) ≤ bare
 
 pub record CodePriorityBits : Type 0 where
-  -- "Demand 3 holds for each w from 3 to 8 and reads L from this rule", on both line counts and with both guards (E12)
+  -- "Demand 3 holds for each w from 3 to 8 and reads L from this rule", on both line counts and with both guards (E12); the Cortex-M0 keeps
+  -- two bits whatever w is (E10)
   pub demand3 : (part : Part) (guard : Edition) (w : ℕ) → 3 ≤ w → w ≤ 8 → CodeDemand3 (keeping part guard w)
   -- "the bare bound of active exceptions is unchanged", whatever w is
   pub most55 : (guard : Edition) (w : ℕ) → AtMost (keeping Lines55 guard w) 63

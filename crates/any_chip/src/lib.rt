@@ -48,7 +48,7 @@ impl State {
             priority: [0; 256],
             nest: [0; 248],
             lost: [0; 240],
-            core: parts::fresh_core(),
+            core: parts::fresh_core(setup.chip()),
         }
     }
 

@@ -50,21 +50,13 @@ fn risen(s: State, address: u32, bit: u32, line: u32) -> State {
     r.state
 }
 
-// Line 239 is bit 239 - 224 = 15 of the eighth word, line 54 is bit 54 - 32 = 22 of the second.
-fn last_risen(part: Part) -> State {
-    match part {
-        Part::Lines55 => risen(chip(part), 0xe000e104, 0x400000, 54),
-        Part::Lines240 => risen(chip(part), 0xe000e11c, 0x8000, 239),
-    }
-}
-
-fn enters(part: Part) {
-    let s = told(b"entry of the last line", last_risen(part).entry());
+fn enters(risen: State) {
+    let s = told(b"entry of the last line", risen.entry());
     looked(b"top, depth, execution priority", s);
 }
 
-fn enters_by(label: &[u8], part: Part, vtable: u32) {
-    told(label, written(last_risen(part), 0xe000ed08, vtable).entry());
+fn enters_by(label: &[u8], risen: State, vtable: u32) {
+    told(label, written(risen, 0xe000ed08, vtable).entry());
 }
 
 // "Refusals: 6 above 239"; above 54 on the old chip.
@@ -76,14 +68,16 @@ pub fn lines() {
     rises(b"line 239 rises", Part::Lines55, 239);
 }
 
-// Exception 255 at 4 x 255 = 0x3FC, 70 at 4 x 70 = 0x118. "VTABLE keeps bits 29:10", 29:9 on the old chip: of ones 0x3FFFFC00 and
-// 0x3FFFFE00.
+// Line 239 is bit 239 - 224 = 15 of the eighth word, line 54 is bit 54 - 32 = 22 of the second. Exception 255 at 4 x 255 = 0x3FC, 70 at 4 x 70 =
+// 0x118. "VTABLE keeps bits 29:10", 29:9 on the old chip: of ones 0x3FFFFC00 and 0x3FFFFE00.
 pub fn entries() {
-    enters(Part::Lines240);
-    enters(Part::Lines55);
-    enters_by(b"entry, VTABLE 0x3FFFFFFF", Part::Lines240, 0x3fffffff);
-    enters_by(b"entry, VTABLE 0xFFFFFFFF", Part::Lines240, 0xffffffff);
-    enters_by(b"entry, VTABLE 0x3FFFFFFF", Part::Lines55, 0x3fffffff);
+    let last = risen(chip(Part::Lines240), 0xe000e11c, 0x8000, 239);
+    let old = risen(chip(Part::Lines55), 0xe000e104, 0x400000, 54);
+    enters(last);
+    enters(old);
+    enters_by(b"entry, VTABLE 0x3FFFFFFF", last, 0x3fffffff);
+    enters_by(b"entry, VTABLE 0xFFFFFFFF", last, 0xffffffff);
+    enters_by(b"entry, VTABLE 0x3FFFFFFF", old, 0x3fffffff);
 }
 
 // "bits 7:5 are kept" of a byte, and bit 9 of VTABLE by the old chip only.

@@ -6,7 +6,7 @@ use Rattle.numbers.specs.NumberLaws.{Bytes}
 use Rattle.rules.specs.declared.Chip.{Chip}
 use Rattle.rules.specs.declared.Setup.{Setup}
 use Rattle.rules.specs.Chip.{chipOf}
-use Rattle.rules.specs.Model.{Model, fresh, freshCore}
+use Rattle.rules.specs.Model.{Model, fresh}
 use Rattle.demand3.proofs.Steps.{sound-fresh}
 use Rattle.text.specs.Text.{textOf}
 use Rattle.pieces.specs.Pieces as pieces
@@ -30,10 +30,10 @@ called {script} {p} {r} setup e (call {r = mid} {old = old} {new = new} n k) =
 pub fresh-viewed : (setup : Setup) → model (state setup (fresh (chipOf setup))) ≡ fresh (chipOf setup)
 fresh-viewed setup = view-laws .viewed setup (fresh (chipOf setup)) (sound-fresh (chipOf setup))
 
-called-fresh : {script : List ℕ} {r : Progress} {outs wrote : List (List ℕ)} (setup : Setup) → Continued script (started setup) outs wrote r → lent.Resumed (chipOf setup) script (fresh (chipOf setup)) pieces.started outs wrote (model (r .state)) (course r)
+called-fresh : {script : List ℕ} {r : Progress} {outs wrote : List (List ℕ)} (setup : Setup) → Continued script (started setup) outs wrote r → lent.Resumed (chipOf setup) script (fresh (chipOf setup)) (pieces.started (chipOf setup)) outs wrote (model (r .state)) (course r)
 unfolding fresh
 called-fresh {script} {r} {outs} {wrote} setup k =
-    subst (λ (m : Model). lent.Resumed (chipOf setup) script m pieces.started outs wrote (model (r .state)) (course r)) (fresh-viewed setup) (called setup refl k)
+    subst (λ (m : Model). lent.Resumed (chipOf setup) script m (pieces.started (chipOf setup)) outs wrote (model (r .state)) (course r)) (fresh-viewed setup) (called setup refl k)
 
 pub code-joined : (setup : Setup) (script : List ℕ) → Bytes script → CodeJoined setup script
 code-joined setup script small =

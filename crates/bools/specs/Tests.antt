@@ -14,6 +14,10 @@ pub true-is : (b : Bool) → T b → b ≡ true
 true-is true t = refl
 true-is false t = absurd t
 
+pub false-is : (b : Bool) → (T b → ⊥) → b ≡ false
+false-is true f = absurd (f tt)
+false-is false f = refl
+
 pub is-false : {b : Bool} → b ≡ false → T b → ⊥
 is-false e t = subst T e t
 

@@ -27,16 +27,16 @@ fn shown(flags: &[bool], n: usize, weight: u32) -> u32
     weighed(flag_at(flags, n), weight)
 }
 
-// `top` is an exception number: the nest holds bytes.
-pub fn intctrl_value(pending: &[bool], depth: usize, top: u32) -> u32
+// `base` is bit 11; `top` is an exception number: the nest holds bytes.
+pub fn intctrl_value(pending: &[bool], base: bool, top: u32) -> u32
     requires { ⌜ top < 256 ⌝ }
-    ensures { λ r. ⌜ r ≡ intctrlValue (now (pending .entry)) depth top ⌝ }
+    ensures { λ r. ⌜ r ≡ intctrlValue (now (pending .entry)) base top ⌝ }
 {
     shown(pending, 2, 0x80000000)
         + shown(pending, 14, 0x10000000)
         + shown(pending, 15, 0x4000000)
         + weighed(flag_words::any_flag(pending, 16), 0x400000)
-        + weighed(depth < 2, 0x800)
+        + weighed(base, 0x800)
         + top
 }
 

@@ -1,15 +1,16 @@
 -- Each call is its refusals in a row, each with a number of its kind and nothing else, and then what it does; the tests of the chip and of soundness come before all.
-use Prim.Native.Nat.{ℕ, _%_, _<_}
-use mathlib.Core.Path.{_≡_, refl, sym}
+use Prim.Native.Nat.{ℕ, _%_}
+use mathlib.Core.Path.{_≡_, refl, sym, subst}
 use mathlib.Core.Logic.{_⊎_, inl, inr, _↔_}
-use mathlib.Core.List.{[], _∷_}
-use mathlib.Core.Bool.{Bool, true, false, not, cond, _||_}
+use mathlib.Core.List.{List, [], _∷_}
+use mathlib.Core.Bool.{Bool, true, false, not, cond, _&&_, _||_}
 use native.Mathlib.Omega.{arith}
-use lib.Dec.{T, ltb, leb, eqb, ltb→lt, T-not}
+use lib.Dec.{T, ltb, leb, eqb, T-not}
 use lib.IntN.{ℤ}
 use Rattle.priority.specs.declared.Found.{Found}
 use Rattle.priority.specs.declared.Found.the-variants.{At, Nothing}
 use Rattle.bools.specs.Tests.{is-false, either, or-right, by-cases}
+use Rattle.script.specs.declared.AccessKind.{AccessKind}
 use Rattle.script.specs.declared.Event.{Event}
 use Rattle.script.specs.declared.Event.the-variants as event
 use Rattle.script.specs.Event.{accessNumber}
@@ -17,16 +18,16 @@ use Rattle.rules.specs.declared.Chip.{Chip}
 use Rattle.rules.specs.declared.System.{System}
 use Rattle.rules.specs.declared.Register.{Register}
 use Rattle.rules.specs.declared.Register.the-variants as reg
-use Rattle.rules.specs.Chip.{isIn, fits}
+use Rattle.rules.specs.Chip.{isArmv6m, isIn, fits}
 use Rattle.rules.specs.Laws.{all, in-all}
 use Rattle.rules.specs.Model.{Model, Answer, refuse}
 use Rattle.rules.specs.Priorities.{execution, isNegative, privileged}
 use Rattle.rules.specs.Sound.{isSound}
-use Rattle.rules.specs.Events.{lineCall, lostCall, tickCall, skipCall, escalates, raised, faultException, faultStatus, faultRaised, faultAt, faultCall, svcAt, svcCall, specialAt, specialCall}
+use Rattle.rules.specs.Events.{lineCall, lostCall, tickCall, skipCall, escalates, raised, faultException, faultStatus, faultRaised, faultAt, faultCall, svcAt, svcCall, lacksSpecial, specialAt, specialCall}
 use Rattle.rules.specs.Nesting.{chosen, enter, entryAt, entryCall, linkFits, returnCall}
 use Rattle.rules.specs.Map.{registerOf, widthRefusal}
 use Rattle.rules.specs.Registers.{isWidth, accessRefusal, readCall, freeWrite, writeCall}
-use Rattle.rules.specs.Access.{fitsAccess, accessAt, accessCall}
+use Rattle.rules.specs.Access.{fitsAccess, accessAt, accessBy, accessCall}
 use Rattle.rules.specs.Step.{actOf, guarded, admitted, stepOf}
 use Rattle.demand1.specs.Demand1.{ownRefusals, Refused, Demand1}
 
@@ -35,21 +36,22 @@ use Rattle.demand1.specs.Demand1.{ownRefusals, Refused, Demand1}
 abbrev Among : ℕ → Type 0
 Among n = T (isIn n (0 ∷ 1 ∷ 2 ∷ 3 ∷ 4 ∷ 5 ∷ []))
 
-width-among : (r : Register) (w : ℕ) → Among (widthRefusal r w)
+width-among : (c : Chip) (r : Register) (w : ℕ) → Among (widthRefusal c r w)
 unfolding widthRefusal
-width-among reg.Missing w = tt
-width-among (reg.Timer r) w = by-cases Among (eqb w 4) (λ _. tt) (λ _. tt)
-width-among (reg.Flags b n) w = by-cases Among (eqb w 4) (λ _. tt) (λ _. tt)
-width-among (reg.Priority n) w = by-cases Among (eqb w 2) (λ _. tt) (λ _. tt)
-width-among (reg.System r) w = by-cases Among (eqb w 4) (λ _. tt) (λ _. tt)
-width-among (reg.Guard r) w = by-cases Among (eqb w 4) (λ _. tt) (λ _. tt)
+width-among c reg.Missing w = tt
+width-among c (reg.Timer r) w = by-cases Among (eqb w 4) (λ _. tt) (λ _. tt)
+width-among c (reg.Flags b n) w = by-cases Among (eqb w 4) (λ _. tt) (λ _. tt)
+width-among c (reg.Priority n) w = by-cases Among (eqb w 2 || (isArmv6m c && eqb w 1)) (λ _. tt) (λ _. tt)
+width-among c (reg.System r) w = by-cases Among (eqb w 4) (λ _. tt) (λ _. tt)
+width-among c (reg.Guard r) w = by-cases Among (eqb w 4) (λ _. tt) (λ _. tt)
+width-among c (reg.Constant x) w = by-cases Among (eqb w 4) (λ _. tt) (λ _. tt)
 
-access-among : (r : Register) (allowed : Bool) (w a : ℕ) → Among (accessRefusal r allowed w a)
+access-among : (c : Chip) (r : Register) (allowed : Bool) (w a : ℕ) → Among (accessRefusal c r allowed w a)
 unfolding accessRefusal
-access-among r allowed w a =
+access-among c r allowed w a =
     by-cases Among (not (isWidth w)) (λ _. tt)
     (λ _. by-cases Among (not (eqb (a % w) 0)) (λ _. tt)
-    (λ _. by-cases Among (not allowed) (λ _. tt) (λ _. width-among r w)))
+    (λ _. by-cases Among (not allowed) (λ _. tt) (λ _. width-among c r w)))
 
 -- not 0, so one of the others
 refused-among : (n : ℕ) → T (not (eqb n 0)) → Among n → T (isIn n (1 ∷ 2 ∷ 3 ∷ 4 ∷ 5 ∷ []))
@@ -63,27 +65,27 @@ refused-among n some t = go (either (eqb n 0) (isIn n (1 ∷ 2 ∷ 3 ∷ 4 ∷ 5
 
 module _ (c : Chip) (m : Model) where
   -- what an event does to a sound model has none but the refusals of its own kind
-  record Own (e : Event) (a : Answer) : Type 0 where
-    number : T (isIn (a .refusal) (ownRefusals e))
+  record Own (numbers : List ℕ) (a : Answer) : Type 0 where
+    number : T (isIn (a .refusal) numbers)
     nothing : a ≡ refuse (a .refusal) m
 
   abbrev Fine : Event → Answer → Type 0
-  Fine e a = (a .refusal ≡ 0) ⊎ Own e a
+  Fine e a = (a .refusal ≡ 0) ⊎ Own (ownRefusals c e) a
 
   read-fine : (w a : ℕ) → Fine (event.Read w a) (readCall c m w a)
   unfolding readCall
   read-fine w a =
-      let n = accessRefusal (registerOf c a) (privileged (m .core)) w a in
+      let n = accessRefusal c (registerOf c a) (privileged (m .core)) w a in
       by-cases (Fine (event.Read w a)) (eqb n 0) (λ _. inl refl)
-      (λ some. inr (record { number = refused-among n some (access-among (registerOf c a) (privileged (m .core)) w a); nothing = refl }))
+      (λ some. inr (record { number = refused-among n some (access-among c (registerOf c a) (privileged (m .core)) w a); nothing = refl }))
 
   write-fine : (w a v : ℕ) → Fine (event.Write w a v) (writeCall c m w a v)
   unfolding writeCall
   write-fine w a v =
       let may = privileged (m .core) || freeWrite (m .core) w a in
-      let n = accessRefusal (registerOf c a) may w a in
+      let n = accessRefusal c (registerOf c a) may w a in
       by-cases (Fine (event.Write w a v)) (eqb n 0) (λ _. inl refl)
-      (λ some. inr (record { number = refused-among n some (access-among (registerOf c a) may w a); nothing = refl }))
+      (λ some. inr (record { number = refused-among n some (access-among c (registerOf c a) may w a); nothing = refl }))
 
   line-fine : (line level : ℕ) → Fine (event.Line line level) (lineCall c m line level)
   unfolding lineCall
@@ -103,21 +105,21 @@ module _ (c : Chip) (m : Model) where
   skip-fine n = inl refl
 
   -- the number made pending is never a refusal
-  raised-fine : (e : Event) (limit : ℤ) (n : ℕ) (status : System) → Fine e (raised limit m n status)
+  raised-fine : (e : Event) (limit : ℤ) (n : ℕ) (status : System) → Fine e (raised c limit m n status)
   unfolding raised
   raised-fine e limit n status = by-cases (Fine e) (escalates limit m n) (λ _. inl refl) (λ _. inl refl)
 
-  fault-fine : (b a : ℕ) → Fine (event.Fault b a) (faultCall m b a)
+  fault-fine : (b a : ℕ) → Fine (event.Fault b a) (faultCall c m b a)
   unfolding faultAt
   fault-fine b a = go (faultException b)
     where
-      go : (o : Found) → Fine (event.Fault b a) (faultRaised (execution m) m o b a)
+      go : (o : Found) → Fine (event.Fault b a) (faultRaised c (execution m) m o b a)
       go Nothing = inr (record { number = tt; nothing = refl })
       go (At n) =
           by-cases (Fine (event.Fault b a)) (isNegative (execution m)) (λ _. inr (record { number = tt; nothing = refl }))
           (λ _. raised-fine (event.Fault b a) (execution m) n (faultStatus b a (m .core .system)))
 
-  svc-fine : Fine event.Svc (svcCall m)
+  svc-fine : Fine event.Svc (svcCall c m)
   unfolding svcAt
   svc-fine =
       by-cases (Fine event.Svc) (isNegative (execution m)) (λ _. inr (record { number = tt; nothing = refl }))
@@ -126,7 +128,7 @@ module _ (c : Chip) (m : Model) where
   special-fine : (which v : ℕ) → Fine (event.Special which v) (specialCall c m which v)
   unfolding specialAt
   special-fine which v =
-      by-cases (Fine (event.Special which v)) (ltb 4 which) (λ _. inr (record { number = tt; nothing = refl }))
+      by-cases (Fine (event.Special which v)) (ltb 4 which || lacksSpecial c which) (λ _. inr (record { number = tt; nothing = refl }))
       (λ _. by-cases (Fine (event.Special which v)) (privileged (m .core)) (λ _. inl refl) (λ _. inl refl))
 
   entry-fine : Fine event.Entry (entryCall m)
@@ -141,12 +143,19 @@ module _ (c : Chip) (m : Model) where
   unfolding returnCall
   return-fine v = by-cases (Fine (event.Return v)) (linkFits (m .core .depth) v) (λ _. inl refl) (λ _. inr (record { number = tt; nothing = refl }))
 
-  access-fine : (k w a : ℕ) (e : Event) → ownRefusals e ≡ 6 ∷ 1 ∷ 2 ∷ [] → Fine e (accessCall c m k w a)
-  unfolding accessAt
-  access-fine k w a e q =
-      by-cases (Fine e) (ltb 2 k) (λ _. inr (record { number = rw q tt; nothing = refl }))
-      (λ _. by-cases (Fine e) (not (fitsAccess k w)) (λ _. inr (record { number = rw q tt; nothing = refl }))
-      (λ _. by-cases (Fine e) (not (eqb (a % w) 0)) (λ _. inr (record { number = rw q tt; nothing = refl })) (λ _. inl refl)))
+  access-fine : (kind : AccessKind) (w a : ℕ) → Fine (event.Access kind w a) (accessCall c m (accessNumber kind) w a)
+  unfolding accessAt accessBy
+  access-fine kind w a = go (isArmv6m c)
+    where
+      FineIn : List ℕ → Answer → Type 0
+      FineIn numbers x = (x .refusal ≡ 0) ⊎ Own numbers x
+
+      go : (b : Bool) → FineIn (cond b (19 ∷ []) (6 ∷ 1 ∷ 2 ∷ [])) (cond b (refuse 19 m) (accessAt (c .guard) (execution m) m (accessNumber kind) w a))
+      go true = inr (record { number = tt; nothing = refl })
+      go false =
+          by-cases (FineIn (6 ∷ 1 ∷ 2 ∷ [])) (ltb 2 (accessNumber kind)) (λ _. inr (record { number = tt; nothing = refl }))
+          (λ _. by-cases (FineIn (6 ∷ 1 ∷ 2 ∷ [])) (not (fitsAccess (accessNumber kind) w)) (λ _. inr (record { number = tt; nothing = refl }))
+          (λ _. by-cases (FineIn (6 ∷ 1 ∷ 2 ∷ [])) (not (eqb (a % w) 0)) (λ _. inr (record { number = tt; nothing = refl })) (λ _. inl refl)))
 
   act-fine : (e : Event) → Fine e (actOf c m e)
   act-fine (event.Read w a) = read-fine w a
@@ -159,43 +168,46 @@ module _ (c : Chip) (m : Model) where
   act-fine (event.Special which v) = special-fine which v
   act-fine event.Entry = entry-fine
   act-fine (event.Return v) = return-fine v
-  act-fine (event.Access kind w a) = access-fine (accessNumber kind) w a (event.Access kind w a) refl
+  act-fine (event.Access kind w a) = access-fine kind w a
   act-fine (event.Lost line) = lost-fine line
   act-fine (event.Skip n) = skip-fine n
 
-  own-below : (e : Event) → T (all (λ (n : ℕ). ltb n 16) (ownRefusals e))
-  unfolding all
-  own-below (event.Read w a) = tt
-  own-below (event.Write w a v) = tt
-  own-below (event.Line line level) = tt
-  own-below event.Nmi = tt
-  own-below event.Tick = tt
-  own-below (event.Fault b a) = tt
-  own-below event.Svc = tt
-  own-below (event.Special which v) = tt
-  own-below event.Entry = tt
-  own-below (event.Return v) = tt
-  own-below (event.Access kind w a) = tt
-  own-below (event.Lost line) = tt
-  own-below (event.Skip n) = tt
-
   -- an event that is let through answers neither 16 nor 17
-  below-16 : (e : Event) → Fine e (actOf c m e) → actOf c m e .refusal < 16
-  below-16 e (inl z) = omega arith
-  below-16 e (inr r) = ltb→lt (actOf c m e .refusal) 16 (in-all (λ (n : ℕ). ltb n 16) (actOf c m e .refusal) (ownRefusals e) (own-below e) (r .number))
+  abbrev Other : ℕ → Bool
+  Other n = not (isIn n (16 ∷ 17 ∷ []))
 
-  events : (e : Event) → (stepOf c m e .refusal ≡ 0) ⊎ Refused e m (stepOf c m e)
+  own-other : (e : Event) → T (all Other (ownRefusals c e))
+  unfolding all
+  own-other (event.Read w a) = tt
+  own-other (event.Write w a v) = tt
+  own-other (event.Line line level) = tt
+  own-other event.Nmi = tt
+  own-other event.Tick = tt
+  own-other (event.Fault b a) = tt
+  own-other event.Svc = tt
+  own-other (event.Special which v) = tt
+  own-other event.Entry = tt
+  own-other (event.Return v) = tt
+  own-other (event.Access kind w a) = by-cases (λ (numbers : List ℕ). T (all Other numbers)) (isArmv6m c) (λ _. tt) (λ _. tt)
+  own-other (event.Lost line) = tt
+  own-other (event.Skip n) = tt
+
+  let-through : (e : Event) → Fine e (actOf c m e) → T (Other (actOf c m e .refusal))
+  let-through e (inl z) = subst (λ (n : ℕ). T (Other n)) (sym z) tt
+  let-through e (inr r) = in-all Other (actOf c m e .refusal) (ownRefusals c e) (own-other e) (r .number)
+
+  events : (e : Event) → (stepOf c m e .refusal ≡ 0) ⊎ Refused c e m (stepOf c m e)
   unfolding admitted guarded
   events e =
-      by-cases (λ a. (a .refusal ≡ 0) ⊎ Refused e m a) (fits c)
-      (λ _. by-cases (λ a. (a .refusal ≡ 0) ⊎ Refused e m a) (isSound c m) (λ _. weak (act-fine e)) (λ _. inr (record { number = tt; nothing = refl })))
+      by-cases (λ a. (a .refusal ≡ 0) ⊎ Refused c e m a) (fits c)
+      (λ _. by-cases (λ a. (a .refusal ≡ 0) ⊎ Refused c e m a) (isSound c m) (λ _. weak (act-fine e)) (λ _. inr (record { number = tt; nothing = refl })))
       (λ _. inr (record { number = tt; nothing = refl }))
     where
-      weak : {a : Answer} → Fine e a → (a .refusal ≡ 0) ⊎ Refused e m a
+      weak : {a : Answer} → Fine e a → (a .refusal ≡ 0) ⊎ Refused c e m a
       weak (inl z) = inl z
       weak {a} (inr r) =
           inr (record {
-            number = or-right (eqb (a .refusal) 17) (isIn (a .refusal) (16 ∷ ownRefusals e)) (or-right (eqb (a .refusal) 16) (isIn (a .refusal) (ownRefusals e)) (r .number));
+            number = or-right (eqb (a .refusal) 17) (isIn (a .refusal) (16 ∷ ownRefusals c e)) (or-right (eqb (a .refusal) 16) (isIn (a .refusal) (ownRefusals c e)) (r .number));
             nothing = r .nothing;
           })
 
@@ -208,7 +220,7 @@ module _ (c : Chip) (m : Model) where
   misfit e = go (fits c) (isSound c m)
     where
       go : (f s : Bool) → (tested f s e .refusal ≡ 17) ↔ (f ≡ false)
-      go true true = (λ q. let l = below-16 e (act-fine e) in let z : ⊥ = omega arith in absurd z, λ q. absurd (is-false q tt))
+      go true true = (λ q. absurd (subst (λ (n : ℕ). T (Other n)) q (let-through e (act-fine e))), λ q. absurd (is-false q tt))
       go true false = (λ q. let z : ⊥ = omega (arith, q) in absurd z, λ q. absurd (is-false q tt))
       go false s = (λ _. refl, λ _. refl)
 
@@ -217,7 +229,7 @@ module _ (c : Chip) (m : Model) where
   unsound e = go (fits c) (isSound c m)
     where
       go : (f s : Bool) → (tested f s e .refusal ≡ 16) ↔ ((f ≡ true) × (s ≡ false))
-      go true true = (λ q. let l = below-16 e (act-fine e) in let z : ⊥ = omega arith in absurd z, λ q. absurd (is-false (q .1) tt))
+      go true true = (λ q. absurd (subst (λ (n : ℕ). T (Other n)) q (let-through e (act-fine e))), λ q. absurd (is-false (q .1) tt))
       go true false = (λ _. (refl, refl), λ _. refl)
       go false s = (λ q. let z : ⊥ = omega (arith, q) in absurd z, λ q. absurd (is-false (sym (q .0)) tt))
 

@@ -4,7 +4,7 @@ use Prim.Native.Nat.{ℕ}
 use mathlib.Core.Path.{_≡_}
 use mathlib.Core.Logic.{_⊎_, _↔_}
 use mathlib.Core.List.{List, [], _∷_}
-use mathlib.Core.Bool.{Bool, true, false}
+use mathlib.Core.Bool.{Bool, true, false, cond}
 use lib.ListN.{length}
 use lib.Dec.{T}
 use Rattle.script.specs.declared.Event.{Event}
@@ -17,7 +17,7 @@ use Rattle.frame.specs.declared.Stacked.{Stacked}
 use Rattle.frame.specs.declared.Unstacked.{Unstacked}
 use Rattle.frame.specs.Frame.{stacked, stackedWindow, unstacked, noWords}
 use Rattle.rules.specs.declared.Chip.{Chip}
-use Rattle.rules.specs.Chip.{isIn, fits}
+use Rattle.rules.specs.Chip.{isArmv6m, isIn, fits}
 use Rattle.rules.specs.Model.{Model, Answer, refuse}
 use Rattle.rules.specs.Sound.{isSound}
 use Rattle.rules.specs.Step.{stepOf}
@@ -25,45 +25,46 @@ use Rattle.rules.specs.Step.{stepOf}
 -- ---- events
 
 -- the refusals of each kind of event, "in order 16, 12, 6, 1, 2, 3, 4, 5, 7, 10, 8, 9, 11", after 17 and 16
-abbrev pub ownRefusals : Event → List ℕ
+abbrev pub ownRefusals : Chip → Event → List ℕ
 -- "1: width not 1, 2 or 4", "2: address no multiple of the width", "3: register access unprivileged, but for a word write to SWTRIG with
 -- CFGCTRL bit 1 set", "4: the aligned word holding this address is no register", "5: width not allowed there"
-ownRefusals (event.Read w a) = 1 ∷ 2 ∷ 3 ∷ 4 ∷ 5 ∷ []
-ownRefusals (event.Write w a v) = 1 ∷ 2 ∷ 3 ∷ 4 ∷ 5 ∷ []
+ownRefusals c (event.Read w a) = 1 ∷ 2 ∷ 3 ∷ 4 ∷ 5 ∷ []
+ownRefusals c (event.Write w a v) = 1 ∷ 2 ∷ 3 ∷ 4 ∷ 5 ∷ []
 -- "6: line above 54, level above 1"
-ownRefusals (event.Line line level) = 6 ∷ []
-ownRefusals event.Nmi = []
-ownRefusals event.Tick = []
+ownRefusals c (event.Line line level) = 6 ∷ []
+ownRefusals c event.Nmi = []
+ownRefusals c event.Tick = []
 -- "7: not a listed fault bit", "10: locked: fault or SVC at -1 or lower"
-ownRefusals (event.Fault b a) = 7 ∷ 10 ∷ []
-ownRefusals event.Svc = 10 ∷ []
--- "6: .. special above 4"
-ownRefusals (event.Special which v) = 6 ∷ []
+ownRefusals c (event.Fault b a) = 7 ∷ 10 ∷ []
+ownRefusals c event.Svc = 10 ∷ []
+-- "6: .. special above 4"; document 02, E10: "6 for special registers 1, 2 and 3"
+ownRefusals c (event.Special which v) = 6 ∷ []
 -- "8: nothing to enter"
-ownRefusals event.Entry = 8 ∷ []
+ownRefusals c event.Entry = 8 ∷ []
 -- "9: return value not among the three, or wrong for the nest"
-ownRefusals (event.Return v) = 9 ∷ []
--- "6: .. access kind above 2", "1: width not 1, 2 or 4; a fetch not 2", "2: address no multiple of the width"
-ownRefusals (event.Access kind w a) = 6 ∷ 1 ∷ 2 ∷ []
+ownRefusals c (event.Return v) = 9 ∷ []
+-- "6: .. access kind above 2", "1: width not 1, 2 or 4; a fetch not 2", "2: address no multiple of the width"; document 02, E10:
+-- "access events are refused by 19, before all others but 16"
+ownRefusals c (event.Access kind w a) = cond (isArmv6m c) (19 ∷ []) (6 ∷ 1 ∷ 2 ∷ [])
 -- document 02, E1: "6 for a line above 54, as for event 3"
-ownRefusals (event.Lost line) = 6 ∷ []
+ownRefusals c (event.Lost line) = 6 ∷ []
 -- E5: "Refusals: none new."
-ownRefusals (event.Skip n) = []
+ownRefusals c (event.Skip n) = []
 
 -- "16: state not sound", of every kind; document 02, E7: "17, a chip setup with w outside 3 to 8, checked before all others"
-abbrev pub refusals : Event → List ℕ
-refusals e = 17 ∷ 16 ∷ ownRefusals e
+abbrev pub refusals : Chip → Event → List ℕ
+refusals c e = 17 ∷ 16 ∷ ownRefusals c e
 
 -- "A refusal returns its number with every other field 0 and changes nothing."
-pub record Refused (e : Event) (m : Model) (a : Answer) : Type 0 where
-  pub number : T (isIn (a .refusal) (refusals e))
+pub record Refused (c : Chip) (e : Event) (m : Model) (a : Answer) : Type 0 where
+  pub number : T (isIn (a .refusal) (refusals c e))
   pub nothing : a ≡ refuse (a .refusal) m
 
 -- ---- the claim, for every chip
 
 pub record Demand1 (c : Chip) : Type 0 where
   -- "A refusal carries its number from document 01 .. and leaves the model .. unchanged."
-  pub events : (m : Model) (e : Event) → (stepOf c m e .refusal ≡ 0) ⊎ Refused e m (stepOf c m e)
+  pub events : (m : Model) (e : Event) → (stepOf c m e .refusal ≡ 0) ⊎ Refused c e m (stepOf c m e)
   -- "17, a chip setup with w outside 3 to 8, checked before all others, 15 and 16 too": in exactly that case, whatever the state is
   pub misfit : (m : Model) (e : Event) → (stepOf c m e .refusal ≡ 17) ↔ (fits c ≡ false)
   -- "16: state not sound": in exactly that case, on a chip that fits

@@ -9,7 +9,7 @@ use lib.ListN.{length, getD, List·getD-eq-default}
 use lib.Dec.{T, ltb, eqb, le→leb, leb→le, ltb→lt, lt→ltb, eqb→eq, T-not, not-T, nltb→le}
 use Rattle.flag_words.specs.Flags.{on}
 use Rattle.grouping.specs.Grouping.{keptByte}
-use Rattle.bools.specs.Tests.{is-true, true-is, fails, same, both, and-l, and-r, join, or-of, of-or, if-of, of-if}
+use Rattle.bools.specs.Tests.{is-true, true-is, false-is, fails, same, both, and-l, and-r, join, or-of, of-or, if-of, of-if}
 use Rattle.bools.specs.Every.{every, every-of, of-every}
 use Rattle.priority.specs.Order.{flag-below, Distinct}
 use Rattle.systick.specs.Laws.{sound-timer-of, of-sound-timer}
@@ -18,11 +18,13 @@ use Rattle.script.specs.declared.Event.{Event}
 use Rattle.rules.specs.declared.Chip.{Chip}
 use Rattle.rules.specs.declared.Place.{Place}
 use Rattle.rules.specs.declared.Place.the-variants.{Exception, Enable, Line}
+use Rattle.rules.specs.declared.Masks.{Masks}
 use Rattle.rules.specs.declared.System.{System}
-use Rattle.rules.specs.Chip.{fits, flagCount, exceptionCount, isIn, hasByte, stands}
+use Rattle.rules.specs.declared.Core.{Core}
+use Rattle.rules.specs.Chip.{isArmv6m, fits, flagCount, exceptionCount, isIn, hasByte, stands}
 use Rattle.rules.specs.Model.{Model, Answer, refuse, stack}
 use Rattle.rules.specs.SystemBlock.{keptVtable, keptSysctrl, keptCfgctrl, keptFaultstat, keptHfaultstat}
-use Rattle.rules.specs.Sound.{flagSound, byteSound, countSound, nestedSound, allOn, allDistinct, unusedSound, soundNest, soundFlags, soundSystem, isSized, isSound, Flags, PriorityBytes, Nested, Places, Counts, SoundSystem, Sound}
+use Rattle.rules.specs.Sound.{flagSound, byteSound, countSound, nestedSound, allOn, allDistinct, unusedSound, soundNest, soundFlags, soundSystem, bareMasks, bareSystem, isBare, isSized, isSound, Flags, PriorityBytes, Nested, Places, Counts, SoundSystem, BareMasks, BareSystem, Bare, Sound}
 use Rattle.rules.specs.Step.{actOf, guarded, admitted, stepOf}
 use Rattle.rules.specs.Laws.{isIn-mem, mem-isIn, counts-held}
 use Rattle.demand3.proofs.Parts.{kept-byte-zero, down-length, nested-fits}
@@ -141,6 +143,70 @@ of-system c s t =
       hfaultstat = eqb→eq (keptHfaultstat (s .hfaultstat)) (s .hfaultstat) (search (and-l, and-r));
     }
 
+-- ---- what ARMv6-M lacks
+
+of-not : (b : Bool) → T (not b) → b ≡ false
+of-not b t = false-is b (T-not b t)
+
+masks-of : (k : Masks) → BareMasks k → T (bareMasks k)
+unfolding bareMasks
+masks-of k h =
+    let a = fails (h .faultmask) in
+    let b = same (k .basepri) 0 (h .basepri) in
+    let d = fails (h .npriv) in
+    search join
+
+of-masks : (k : Masks) → T (bareMasks k) → BareMasks k
+unfolding bareMasks
+of-masks k t =
+    record {
+      faultmask = of-not (k .faultmask) (search (and-l, and-r));
+      basepri = eqb→eq (k .basepri) 0 (search (and-l, and-r));
+      npriv = of-not (k .npriv) (search (and-l, and-r));
+    }
+
+block-of : (s : System) → BareSystem s → T (bareSystem s)
+unfolding bareSystem
+block-of s h =
+    let a = same (s .vtable) 0 (h .vtable) in
+    let b = same (s .cfgctrl) 0x208 (h .cfgctrl) in
+    let d = same (s .faultstat) 0 (h .faultstat) in
+    let e = same (s .hfaultstat) 0 (h .hfaultstat) in
+    let f = same (s .mmaddr) 0 (h .mmaddr) in
+    let g = same (s .faultaddr) 0 (h .faultaddr) in
+    search join depth 8
+
+of-block : (s : System) → T (bareSystem s) → BareSystem s
+unfolding bareSystem
+of-block s t =
+    record {
+      vtable = eqb→eq (s .vtable) 0 (search (and-l, and-r) depth 8);
+      cfgctrl = eqb→eq (s .cfgctrl) 0x208 (search (and-l, and-r) depth 8);
+      faultstat = eqb→eq (s .faultstat) 0 (search (and-l, and-r) depth 8);
+      hfaultstat = eqb→eq (s .hfaultstat) 0 (search (and-l, and-r) depth 8);
+      mmaddr = eqb→eq (s .mmaddr) 0 (search (and-l, and-r) depth 8);
+      faultaddr = eqb→eq (s .faultaddr) 0 (search (and-l, and-r) depth 8);
+    }
+
+bare-of : (k : Core) → Bare (k .group) (k .masks) (k .guard) (k .system) → T (isBare k)
+unfolding isBare
+bare-of k h =
+    let a = same (k .group) 0 (h .group) in
+    let b = masks-of (k .masks) (h .masks) in
+    let d = h .guard in
+    let e = block-of (k .system) (h .system) in
+    search join
+
+of-bare : (k : Core) → T (isBare k) → Bare (k .group) (k .masks) (k .guard) (k .system)
+unfolding isBare
+of-bare k t =
+    record {
+      group = eqb→eq (k .group) 0 (search (and-l, and-r));
+      masks = of-masks (k .masks) (search (and-l, and-r));
+      guard = search (and-l, and-r);
+      system = of-block (k .system) (search (and-l, and-r));
+    }
+
 -- ---- the whole
 
 pub depth-fits : {c : Chip} {m : Model} → Sound c m → m .core .depth ≤ exceptionCount c
@@ -191,30 +257,32 @@ sound-of {c} {m} h =
     let i = sound-timer-of (h .core .timer) in
     let j = sound-mpu-of (h .core .guard) in
     let k = system-of c (m .core .system) (h .core .system) in
-    search join depth 12
+    let n = if-of (isArmv6m c) (isBare (m .core)) (λ t. bare-of (m .core) (h .core .bare t)) in
+    search join depth 13
 
 pub of-sound : (c : Chip) (m : Model) → T (isSound c m) → Sound c m
 unfolding isSound isSized soundFlags soundNest
 of-sound c m t =
-    let sized : T (isSized c m) = search (and-l, and-r) depth 12 in
-    let flagged : T (soundFlags c (m .pending) (m .active) (m .enabled) (m .level)) = search (and-l, and-r) depth 12 in
-    let nested : T (soundNest c (m .active) (m .nest) (m .core .depth)) = search (and-l, and-r) depth 12 in
-    let size = eqb→eq (length (m .active)) (flagCount c) (search (and-l, and-r) depth 12) in
+    let sized : T (isSized c m) = search (and-l, and-r) depth 13 in
+    let flagged : T (soundFlags c (m .pending) (m .active) (m .enabled) (m .level)) = search (and-l, and-r) depth 13 in
+    let nested : T (soundNest c (m .active) (m .nest) (m .core .depth)) = search (and-l, and-r) depth 13 in
+    let size = eqb→eq (length (m .active)) (flagCount c) (search (and-l, and-r) depth 13) in
     record {
-      pending = of-flags c Exception (m .pending) (eqb→eq (length (m .pending)) (flagCount c) (search (and-l, and-r) depth 12)) (search (and-l, and-r) depth 12);
-      active = of-flags c Exception (m .active) size (search (and-l, and-r) depth 12);
-      enabled = of-flags c Enable (m .enabled) (eqb→eq (length (m .enabled)) (flagCount c) (search (and-l, and-r) depth 12)) (search (and-l, and-r) depth 12);
-      level = of-flags c Line (m .level) (eqb→eq (length (m .level)) (flagCount c) (search (and-l, and-r) depth 12)) (search (and-l, and-r) depth 12);
-      priority = of-bytes c (m .priority) (eqb→eq (length (m .priority)) (flagCount c) (search (and-l, and-r) depth 12)) (search (and-l, and-r) depth 12);
-      places = of-places c (m .nest) (m .core .depth) (eqb→eq (length (m .nest)) (exceptionCount c) (search (and-l, and-r) depth 12)) (search (and-l, and-r) depth 12);
-      nested = record { distinct = of-distinct (stack m) (search (and-l, and-r) depth 12); shown = of-allOn (m .active) (stack m) (search (and-l, and-r) depth 12); stacked = of-stacked c (m .active) (stack m) size (search (and-l, and-r) depth 12) };
-      lost = of-counts c (m .lost) (eqb→eq (length (m .lost)) (c .lines) (search (and-l, and-r) depth 12)) (search (and-l, and-r) depth 12);
+      pending = of-flags c Exception (m .pending) (eqb→eq (length (m .pending)) (flagCount c) (search (and-l, and-r) depth 13)) (search (and-l, and-r) depth 13);
+      active = of-flags c Exception (m .active) size (search (and-l, and-r) depth 13);
+      enabled = of-flags c Enable (m .enabled) (eqb→eq (length (m .enabled)) (flagCount c) (search (and-l, and-r) depth 13)) (search (and-l, and-r) depth 13);
+      level = of-flags c Line (m .level) (eqb→eq (length (m .level)) (flagCount c) (search (and-l, and-r) depth 13)) (search (and-l, and-r) depth 13);
+      priority = of-bytes c (m .priority) (eqb→eq (length (m .priority)) (flagCount c) (search (and-l, and-r) depth 13)) (search (and-l, and-r) depth 13);
+      places = of-places c (m .nest) (m .core .depth) (eqb→eq (length (m .nest)) (exceptionCount c) (search (and-l, and-r) depth 13)) (search (and-l, and-r) depth 13);
+      nested = record { distinct = of-distinct (stack m) (search (and-l, and-r) depth 13); shown = of-allOn (m .active) (stack m) (search (and-l, and-r) depth 13); stacked = of-stacked c (m .active) (stack m) size (search (and-l, and-r) depth 13) };
+      lost = of-counts c (m .lost) (eqb→eq (length (m .lost)) (c .lines) (search (and-l, and-r) depth 13)) (search (and-l, and-r) depth 13);
       core = record {
-        group = ltb→lt (m .core .group) 8 (search (and-l, and-r) depth 12);
-        basepri = eqb→eq (keptByte (c .bits) (m .core .masks .basepri)) (m .core .masks .basepri) (search (and-l, and-r) depth 12);
-        timer = of-sound-timer (m .core .timer) (search (and-l, and-r) depth 12);
-        guard = of-sound-mpu (c .guard) (m .core .guard) (search (and-l, and-r) depth 12);
-        system = of-system c (m .core .system) (search (and-l, and-r) depth 12);
+        group = ltb→lt (m .core .group) 8 (search (and-l, and-r) depth 13);
+        basepri = eqb→eq (keptByte (c .bits) (m .core .masks .basepri)) (m .core .masks .basepri) (search (and-l, and-r) depth 13);
+        timer = of-sound-timer (m .core .timer) (search (and-l, and-r) depth 13);
+        guard = of-sound-mpu (c .guard) (m .core .guard) (search (and-l, and-r) depth 13);
+        system = of-system c (m .core .system) (search (and-l, and-r) depth 13);
+        bare = λ y. of-bare (m .core) (of-if (isArmv6m c) (isBare (m .core)) (search (and-l, and-r) depth 13) y);
       };
     }
 

@@ -11,7 +11,7 @@ use lib.Dec.{T, ltb, eqb}
 use lib.IntN.{negsuc}
 use lib.Signed.{_<ℤ_, <ℤ-≤ℤ-trans}
 use borrow.Author.Tests.{lt-ltb, ne-eqb}
-use Rattle.bools.specs.Tests.{and-needed, by-cases}
+use Rattle.bools.specs.Tests.{false-is, and-needed, by-cases}
 use Rattle.flag_words.specs.Flags.{on}
 use Rattle.grouping.specs.Grouping.{grouped, groupPriority}
 use Rattle.priority.specs.declared.Found.{Found}
@@ -35,10 +35,6 @@ use Rattle.demand3.proofs.Nesting.{idle, room, chosen-able, sound-enter
 -- a place that was clear, set and cleared
 cleared {ℓ} : {A : Type ℓ} (l : List A) (i : ℕ) (x clear : A) → getD l i clear ≡ clear → set (set l i x) i clear ≡ l
 cleared l i x clear e = set-set l i x clear ∙ ap (set l i) (sym e) ∙ set-getD l i clear
-
-false-is : (b : Bool) → (T b → ⊥) → b ≡ false
-false-is true f = absurd (f tt)
-false-is false f = refl
 
 -- ---- the link value that an entry answers, where d are nested
 

@@ -6,22 +6,22 @@ use mathlib.Core.List.{_∷_, List·Memᴰ, List·Memᴰ·head, List·Memᴰ·ca
 use mathlib.Core.Bool.{true, false}
 use native.Mathlib.Omega.{arith}
 use lib.ListN.{getD, set}
-use lib.Dec.{T}
+use lib.Dec.{T, eqb}
 use lib.Signed.{_≤ℤ_, _<ℤ_, <ℤ-≤ℤ-trans, clashℤ}
 use Rattle.flag_words.specs.Flags.{on}
 use Rattle.priority.specs.declared.Found.the-variants.{At}
 use Rattle.grouping.specs.Grouping.{keptByte}
 use Rattle.priority.specs.Priority.{executionNested}
-use Rattle.bools.specs.Tests.{by-cases}
+use Rattle.bools.specs.Tests.{and-false-of, by-cases}
 use Rattle.priority.specs.Order.{Rising}
 use Rattle.priority.specs.Laws.{Eligible, pending-best, execution-active, nested-execution}
 use Rattle.rules.specs.declared.Chip.{Chip}
 use Rattle.rules.specs.declared.Place.the-variants.{Exception}
 use Rattle.rules.specs.declared.Masks.{Masks}
-use Rattle.rules.specs.Chip.{flagCount, exceptionCount, exists}
+use Rattle.rules.specs.Chip.{isArmv6m, flagCount, exceptionCount, exists}
 use Rattle.rules.specs.Model.{Model, down, stack, top, withActive, withNest, withDepth, withMasks}
 use Rattle.rules.specs.Priorities.{groupNumber, execution}
-use Rattle.rules.specs.Sound.{Nested, Sound}
+use Rattle.rules.specs.Sound.{Nested, BareMasks, Sound}
 use Rattle.rules.specs.Events.{pend}
 use Rattle.rules.specs.Nesting.{chosen, entered, returnedMasks, repended, returned}
 use Rattle.demand3.specs.Demand3.{dropTop, SamePriorities}
@@ -88,7 +88,7 @@ module _ {c : Chip} {m : Model} (h : Sound c m) where
           places = places-push c (m .nest) (m .core .depth) (h .places) n;
           nested = rw stack-entered pushed;
           lost = h .lost;
-          core = kept-core (h .core) (h .core .basepri);
+          core = kept-core (h .core) (h .core .basepri) (λ t. let b = h .core .bare t .masks in record { faultmask = b .faultmask; basepri = b .basepri; npriv = b .npriv });
         }
 
     pub rising-entered : Rising (groupNumber m) (stack m) → Rising (groupNumber (entered n m)) (stack (entered n m))
@@ -122,9 +122,9 @@ module _ {c : Chip} {m : Model} (h : Sound c m) where
     pub stacked : stack t ≡ dropTop (stack m)
     pub same : SamePriorities m t
 
-  popped : (k : Masks) (t : Model) → 0 < m .core .depth → keptByte (c .bits) (k .basepri) ≡ k .basepri → Sound c t → SamePriorities m t
+  popped : (k : Masks) (t : Model) → 0 < m .core .depth → keptByte (c .bits) (k .basepri) ≡ k .basepri → (T (isArmv6m c) → BareMasks k) → Sound c t → SamePriorities m t
       → Popped (withMasks k (withDepth (pred (m .core .depth)) (withNest (set (m .nest) (pred (m .core .depth)) 0) (withActive (set (m .active) (top (stack m)) false) t))))
-  popped k t l b s same =
+  popped k t l b z s same =
       record {
         sound =
             record {
@@ -136,7 +136,7 @@ module _ {c : Chip} {m : Model} (h : Sound c m) where
               places = places-pop c (m .nest) (m .core .depth) (h .places) l (depth-fits h);
               nested = subst (Nested (set (m .active) (top (stack m)) false)) (sym (down-pop (m .nest) (m .core .depth))) rest;
               lost = s .lost;
-              core = kept-core (s .core) b;
+              core = kept-core (s .core) b z;
             };
         stacked = down-pop (m .nest) (m .core .depth);
         same = record { priority = same .priority; group = same .group };
@@ -154,5 +154,9 @@ module _ {c : Chip} {m : Model} (h : Sound c m) where
   returned-popped v l =
       by-cases (λ t. Popped (withMasks (returnedMasks (top (stack m)) v (m .core .masks)) (withDepth (pred (m .core .depth)) (withNest (set (m .nest) (pred (m .core .depth)) 0) (withActive (set (m .active) (top (stack m)) false) t)))))
       (on (m .level) (top (stack m)))
-      (λ t. popped (returnedMasks (top (stack m)) v (m .core .masks)) (pend (top (stack m)) m) l (h .core .basepri) (pend-quiet (stay h) (top (stack m)) (line-stands c (top (stack m)) Exception (h .level .only (top (stack m)) t)) .sound) (record { priority = refl; group = refl }))
-      (λ _. popped (returnedMasks (top (stack m)) v (m .core .masks)) m l (h .core .basepri) h (record { priority = refl; group = refl }))
+      (λ t. popped (returnedMasks (top (stack m)) v (m .core .masks)) (pend (top (stack m)) m) l (h .core .basepri) after (pend-quiet (stay h) (top (stack m)) (line-stands c (top (stack m)) Exception (h .level .only (top (stack m)) t)) .sound) (record { priority = refl; group = refl }))
+      (λ _. popped (returnedMasks (top (stack m)) v (m .core .masks)) m l (h .core .basepri) after h (record { priority = refl; group = refl }))
+    where
+      -- FAULTMASK is clear, whether the return clears it or not
+      after : T (isArmv6m c) → BareMasks (returnedMasks (top (stack m)) v (m .core .masks))
+      after t = let b = h .core .bare t .masks in record { faultmask = and-false-of (eqb (top (stack m)) 2) (m .core .masks .faultmask) (b .faultmask); basepri = b .basepri; npriv = b .npriv }

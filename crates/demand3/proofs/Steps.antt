@@ -8,22 +8,23 @@ use lib.Dec.{ltb, leb, eqb}
 use Rattle.bits.specs.Words.{kept}
 use Rattle.priority.specs.declared.Found.{Found}
 use Rattle.priority.specs.declared.Found.the-variants.{At, Nothing}
-use Rattle.bools.specs.Tests.{by-cases}
+use Rattle.bools.specs.Tests.{is-true, true-is, by-cases}
 use Rattle.priority.specs.Order.{Rising}
 use Rattle.script.specs.Event.{accessNumber}
 use Rattle.script.specs.declared.Event.{Event}
 use Rattle.script.specs.declared.Event.the-variants as event
 use Rattle.systick.specs.Laws as timer
 use Rattle.mpu.specs.Laws as mpu
+use Rattle.mpu.specs.Unused.{fresh-unused}
 use Rattle.rules.specs.declared.Chip.{Chip}
 use Rattle.rules.specs.declared.Place.the-variants.{Exception, Enable, Line}
-use Rattle.rules.specs.Chip.{fits, flagCount}
-use Rattle.rules.specs.Model.{Model, Answer, stack, fresh}
+use Rattle.rules.specs.Chip.{isArmv6m, fits, flagCount}
+use Rattle.rules.specs.Model.{Model, Answer, stack, freshCfgctrl, fresh}
 use Rattle.rules.specs.Priorities.{groupNumber}
-use Rattle.rules.specs.SystemBlock.{keptVtable}
+use Rattle.rules.specs.SystemBlock.{keptVtable, keptCfgctrl}
 use Rattle.rules.specs.Sound.{Sound}
 use Rattle.rules.specs.Nesting.{chosen, enter, entryAt, entryCall, linkFits, returned, returnCall}
-use Rattle.rules.specs.Access.{fitsAccess, accessAt, accessCall}
+use Rattle.rules.specs.Access.{fitsAccess, accessAt, accessBy, accessCall}
 use Rattle.rules.specs.Step.{actOf, admitted, stepOf}
 use Rattle.demand3.specs.Demand3.{moved, SamePriorities}
 use Rattle.demand3.proofs.Parts.{getD-fresh, flags-fresh, bytes-fresh, kept-byte-zero, places-fresh, counts-fresh, rising-drop}
@@ -52,11 +53,12 @@ quiet {m = m} e {a = a} k q = record { sound = q .sound; recorded = k ∙ sym (q
 
 module _ {c : Chip} {m : Model} (h : Sound c m) where
   access-quiet : (k w a : ℕ) → Quiet c m (accessCall c m k w a .next)
-  unfolding accessAt
+  unfolding accessAt accessBy
   access-quiet k w a =
-      by-cases (λ (x : Answer). Quiet c m (x .next)) (ltb 2 k) (λ _. stay h)
+      by-cases (λ (x : Answer). Quiet c m (x .next)) (isArmv6m c) (λ _. stay h)
+      (λ _. by-cases (λ (x : Answer). Quiet c m (x .next)) (ltb 2 k) (λ _. stay h)
       (λ _. by-cases (λ (x : Answer). Quiet c m (x .next)) (not (fitsAccess k w)) (λ _. stay h)
-      (λ _. by-cases (λ (x : Answer). Quiet c m (x .next)) (not (eqb (a % w) 0)) (λ _. stay h) (λ _. stay h)))
+      (λ _. by-cases (λ (x : Answer). Quiet c m (x .next)) (not (eqb (a % w) 0)) (λ _. stay h) (λ _. stay h))))
 
   enter-ok : (o : Found) → chosen m ≡ o → Step c m event.Entry (enter m o)
   enter-ok Nothing e = quiet event.Entry refl (stay h)
@@ -108,6 +110,9 @@ module _ {c : Chip} {m : Model} (h : Sound c m) where
 fresh-vtable : (c : Chip) → keptVtable c 0 ≡ 0
 fresh-vtable c = by-cases (λ (l : ℕ). kept 29 l 0 ≡ 0) (leb (flagCount c) 128) (λ _. refl) (λ _. refl)
 
+fresh-cfgctrl-kept : (c : Chip) → keptCfgctrl (freshCfgctrl c) ≡ freshCfgctrl c
+fresh-cfgctrl-kept c = by-cases (λ (x : ℕ). keptCfgctrl x ≡ x) (isArmv6m c) {x = 0x208} {y = 0x200} (λ _. refl) (λ _. refl)
+
 pub sound-fresh : (c : Chip) → Sound c (fresh c)
 unfolding fresh
 sound-fresh c =
@@ -125,6 +130,12 @@ sound-fresh c =
         basepri = kept-byte-zero (c .bits);
         timer = timer.fresh-sound;
         guard = mpu.fresh-sound (c .guard);
-        system = record { vtable = fresh-vtable c; sysctrl = refl; cfgctrl = refl; faultstat = refl; hfaultstat = refl };
+        system = record { vtable = fresh-vtable c; sysctrl = refl; cfgctrl = fresh-cfgctrl-kept c; faultstat = refl; hfaultstat = refl };
+        bare = λ t. record {
+          group = refl;
+          masks = record { faultmask = refl; basepri = refl; npriv = refl };
+          guard = is-true fresh-unused;
+          system = record { vtable = refl; cfgctrl = rw (true-is (isArmv6m c) t); faultstat = refl; hfaultstat = refl; mmaddr = refl; faultaddr = refl };
+        };
       };
     }

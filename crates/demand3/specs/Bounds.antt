@@ -1,11 +1,11 @@
--- How deep exceptions nest on the chips with three kept bits: the third demand's bounds in numbers. The proof is `proofs/Bounds.antt`.
-use Prim.Native.Nat.{ℕ, _≤_}
+-- How deep exceptions nest on the chips with three kept bits and on the Cortex-M0: the third demand's bounds in numbers. The proof is `proofs/Bounds.antt`.
+use Prim.Native.Nat.{ℕ, _+_, _≤_}
 use mathlib.Core.Path.{_≡_}
 use mathlib.Core.List.{List, []}
 use lib.ListN.{length}
 use Rattle.script.specs.declared.Event.{Event}
 use Rattle.rules.specs.declared.Chip.{Chip}
-use Rattle.rules.specs.Chip.{chip55, chip240}
+use Rattle.rules.specs.Chip.{chip55, chip240, chipM0}
 use Rattle.rules.specs.Model.{Model, Answer, fresh}
 use Rattle.demand3.specs.Demand3.{Calls, ledger, Steady}
 
@@ -28,3 +28,11 @@ Bounded55 = Bounded chip55 63
 -- document 02, E4: "In demand 3 the bare bound becomes 248 for this chip."
 abbrev pub Bounded240 : Type 0
 Bounded240 = Bounded chip240 248
+
+-- document 02, E10: "Demand 3 reads L = 4, and the bare bound is 37."
+pub record BoundsM0 (es : List Event) (rs : List Answer) : Type 0 where
+  pub most : length (ledger [] es rs) ≤ 37
+  pub few : Steady (fresh chipM0) rs → length (ledger [] es rs) ≤ 4 + 2
+
+abbrev pub BoundedM0 : Type 0
+BoundedM0 = (es : List Event) (rs : List Answer) (t : Model) → Calls chipM0 (fresh chipM0) es rs t → BoundsM0 es rs

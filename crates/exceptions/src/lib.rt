@@ -2,7 +2,7 @@
 use rules::Chip;
 use rules::Place;
 ghost use mathlib.Core.Path.{_≡_};
-ghost use Rattle.rules.specs.Chip.{flagCount, exceptionCount, isLine, exists, hasByte, hasEnable, stands};
+ghost use Rattle.rules.specs.Chip.{flagCount, exceptionCount, isIn, configurable, isLine, exists, hasByte, hasEnable, stands};
 
 pub fn flag_count(chip: Chip) -> usize
     ensures { λ r. ⌜ r ≡ flagCount chip ⌝ }
@@ -13,6 +13,9 @@ pub fn flag_count(chip: Chip) -> usize
 pub fn exception_count(chip: Chip) -> usize
     ensures { λ r. ⌜ r ≡ exceptionCount chip ⌝ }
 {
+    if chip.is_armv6m() {
+        return 5 + chip.lines as usize;
+    }
     8 + chip.lines as usize
 }
 
@@ -25,19 +28,40 @@ pub fn is_line(chip: Chip, n: usize) -> bool
     n - 16 < chip.lines as usize
 }
 
+// The faults that have an enable bit in SYSHNDCTRL, which ARMv6-M lacks.
+fn is_configurable(chip: Chip, n: usize) -> bool
+    ensures { λ r. ⌜ r ≡ isIn n (configurable chip) ⌝ }
+{
+    if chip.is_armv6m() {
+        return false;
+    }
+    match n {
+        4 => true, // MemManage
+        5 => true, // BusFault
+        6 => true, // UsageFault
+        _ => false,
+    }
+}
+
+pub fn has_enable(chip: Chip, n: usize) -> bool
+    ensures { λ r. ⌜ r ≡ hasEnable chip n ⌝ }
+{
+    if is_configurable(chip, n) {
+        return true;
+    }
+    is_line(chip, n)
+}
+
 pub fn exists(chip: Chip, n: usize) -> bool
     ensures { λ r. ⌜ r ≡ exists chip n ⌝ }
 {
     match n {
         2 => true, // NMI
         3 => true, // HardFault
-        4 => true, // MemManage
-        5 => true, // BusFault
-        6 => true, // UsageFault
         11 => true, // SVCall
         14 => true, // PendSV
         15 => true, // SysTick
-        _ => is_line(chip, n),
+        _ => has_enable(chip, n),
     }
 }
 
@@ -48,17 +72,6 @@ pub fn has_byte(chip: Chip, n: usize) -> bool
         return false;
     }
     exists(chip, n)
-}
-
-pub fn has_enable(chip: Chip, n: usize) -> bool
-    ensures { λ r. ⌜ r ≡ hasEnable chip n ⌝ }
-{
-    match n {
-        4 => true, // SYSHNDCTRL bit 16
-        5 => true, // bit 17
-        6 => true, // bit 18
-        _ => is_line(chip, n),
-    }
 }
 
 pub fn stands(chip: Chip, place: Place, n: usize) -> bool

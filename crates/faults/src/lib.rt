@@ -13,6 +13,7 @@ use nvic::flags::store_flag;
 use parts::accepted;
 use parts::refused;
 use priority::Found;
+use rules::Chip;
 use rules::Core;
 use rules::Outcome;
 use rules::System;
@@ -31,6 +32,7 @@ fn escalates(enabled: &[bool], priority: &[u8], group: u32, limit: i32, n: usize
 
 // n is 4, 5, 6 or 11.
 fn raised(
+    chip: Chip,
     pending: &mut [bool],
     enabled: &[bool],
     priority: &[u8],
@@ -40,21 +42,23 @@ fn raised(
     status: System,
 ) -> Outcome
     requires { ⌜ n < 16 ⌝ }
-    ensures { λ r. ⌜ ((m : Model) → answer r (withPriority (now (priority .entry)) (withEnabled (now (enabled .entry)) (withPending (now (pending .exit)) m))) ≡ raised limit (withCore core (withPriority (now (priority .entry)) (withEnabled (now (enabled .entry)) (withPending (now (pending .entry)) m)))) n status) ⌝ }
+    ensures { λ r. ⌜ ((m : Model) → answer r (withPriority (now (priority .entry)) (withEnabled (now (enabled .entry)) (withPending (now (pending .exit)) m))) ≡ raised chip limit (withCore core (withPriority (now (priority .entry)) (withEnabled (now (enabled .entry)) (withPending (now (pending .entry)) m)))) n status) ⌝ }
 {
+    let system = core.system;
     if escalates(enabled, priority, core.group, limit, n) {
-        let forced = system::status::forced(status);
+        let forced = system::status::noted(chip, system::status::forced(status), system);
         core.system = forced;
         store_flag(pending, 3, true);
         return accepted(core, 3);
     }
-    core.system = status;
+    core.system = system::status::noted(chip, status, system);
     store_flag(pending, n, true);
     accepted(core, n as u32)
 }
 
 // The fault of a bit whose exception is n.
 fn fault_at(
+    chip: Chip,
     pending: &mut [bool],
     enabled: &[bool],
     priority: &[u8],
@@ -65,17 +69,18 @@ fn fault_at(
     address: u32,
 ) -> Outcome
     requires { ⌜ (n < 16) × (bit < 32) ⌝ }
-    ensures { λ r. ⌜ ((m : Model) → answer r (withPriority (now (priority .entry)) (withEnabled (now (enabled .entry)) (withPending (now (pending .exit)) m))) ≡ faultRaised limit (withCore core (withPriority (now (priority .entry)) (withEnabled (now (enabled .entry)) (withPending (now (pending .entry)) m)))) (At n) bit address) ⌝ }
+    ensures { λ r. ⌜ ((m : Model) → answer r (withPriority (now (priority .entry)) (withEnabled (now (enabled .entry)) (withPending (now (pending .exit)) m))) ≡ faultRaised chip limit (withCore core (withPriority (now (priority .entry)) (withEnabled (now (enabled .entry)) (withPending (now (pending .entry)) m)))) (At n) bit address) ⌝ }
 {
     if limit < 0 {
         return refused(core, 10);
     }
     let system = core.system;
     let status = system::status::fault_status(system, bit, address);
-    raised(pending, enabled, priority, core, limit, n, status)
+    raised(chip, pending, enabled, priority, core, limit, n, status)
 }
 
 pub fn fault(
+    chip: Chip,
     pending: &mut [bool],
     enabled: &[bool],
     priority: &[u8],
@@ -84,27 +89,38 @@ pub fn fault(
     bit: u32,
     address: u32,
 ) -> Outcome
-    ensures { λ r. ⌜ ((m : Model) → answer r (withPriority (now (priority .entry)) (withEnabled (now (enabled .entry)) (withPending (now (pending .exit)) m))) ≡ faultAt limit (withCore core (withPriority (now (priority .entry)) (withEnabled (now (enabled .entry)) (withPending (now (pending .entry)) m)))) bit address) ⌝ }
+    ensures { λ r. ⌜ ((m : Model) → answer r (withPriority (now (priority .entry)) (withEnabled (now (enabled .entry)) (withPending (now (pending .exit)) m))) ≡ faultAt chip limit (withCore core (withPriority (now (priority .entry)) (withEnabled (now (enabled .entry)) (withPending (now (pending .entry)) m)))) bit address) ⌝ }
 {
     let found = system::status::fault_exception(bit);
     match found {
-        Found::At(n) => fault_at(pending, enabled, priority, core, limit, n, bit, address),
+        Found::At(n) => fault_at(
+            chip,
+            pending,
+            enabled,
+            priority,
+            core,
+            limit,
+            n,
+            bit,
+            address,
+        ),
         Found::Nothing => refused(core, 7),
     }
 }
 
 pub fn svc(
+    chip: Chip,
     pending: &mut [bool],
     enabled: &[bool],
     priority: &[u8],
     core: Core,
     limit: i32,
 ) -> Outcome
-    ensures { λ r. ⌜ ((m : Model) → answer r (withPriority (now (priority .entry)) (withEnabled (now (enabled .entry)) (withPending (now (pending .exit)) m))) ≡ svcAt limit (withCore core (withPriority (now (priority .entry)) (withEnabled (now (enabled .entry)) (withPending (now (pending .entry)) m))))) ⌝ }
+    ensures { λ r. ⌜ ((m : Model) → answer r (withPriority (now (priority .entry)) (withEnabled (now (enabled .entry)) (withPending (now (pending .exit)) m))) ≡ svcAt chip limit (withCore core (withPriority (now (priority .entry)) (withEnabled (now (enabled .entry)) (withPending (now (pending .entry)) m))))) ⌝ }
 {
     if limit < 0 {
         return refused(core, 10);
     }
     let system = core.system;
-    raised(pending, enabled, priority, core, limit, 11, system)
+    raised(chip, pending, enabled, priority, core, limit, 11, system)
 }

@@ -1,12 +1,11 @@
 -- On a sound state an access event is the rules' verdict, and the verdict's laws are those of `verdicts`; what is of the registers computes.
-use Prim.Native.Nat.{ℕ, _%_, _≤_}
-use mathlib.Core.Path.{_≡_, refl, sym, ap, subst, _∙_}
+use Prim.Native.Nat.{ℕ, _%_}
+use mathlib.Core.Path.{_≡_, refl, sym, ap, _∙_}
 use mathlib.Core.Logic.{_≢_}
-use mathlib.Core.Bool.{true, false, not, cond}
-use lib.Dec.{T, eqb}
+use mathlib.Core.Bool.{false}
+use lib.Dec.{T}
 use borrow.Author.Tests.{eq-eqb, ne-eqb}
 use Rattle.bools.specs.Tests.{true-is}
-use Rattle.mpu.specs.declared.Mpu.{Mpu}
 use Rattle.mpu.specs.declared.Edition.{Edition}
 use Rattle.mpu.specs.declared.Edition.the-variants.{Pmsav7, Pmsav8}
 use Rattle.mpu.specs.Registers.{mpuRegisterAt}
@@ -19,20 +18,20 @@ use Rattle.editions.specs.EditionLaws as laws
 use Rattle.editions.specs.Pmsav8Laws as pmsav8
 use Rattle.script.specs.Event.{accessNumber}
 use Rattle.rules.specs.declared.Chip.{Chip}
-use Rattle.rules.specs.Chip.{fits, withBits, withEdition}
+use Rattle.rules.specs.Chip.{isArmv6m, fits, withBits, withEdition}
 use Rattle.rules.specs.Model.{Model, done, refuse, withGuard}
 use Rattle.rules.specs.Priorities.{execution, isNegative, privileged}
 use Rattle.rules.specs.Sound.{Sound}
 use Rattle.rules.specs.Map.{blockRegister, registerAt}
-use Rattle.rules.specs.Access.{purposeOf, fitsAccess, accessAt, accessCall}
+use Rattle.rules.specs.Access.{purposeOf, fitsAccess, accessAt, accessBy, accessCall}
 use Rattle.rules.specs.PriorityBits.{from-3-to-8}
 use Rattle.rules.specs.Step.{stepOf}
 use Rattle.demand3.proofs.Check.{step-sound}
 use Rattle.demand3.proofs.Demand3.{demand3}
-use Rattle.guard_editions.specs.GuardEditions.{number, asks, verdictIn, Shared, First, ByRegions, Second, Region, Registers, E12}
+use Rattle.guard_editions.specs.GuardEditions.{number, asks, verdictIn, Shared, First, Second, Region, Registers, E12}
 use Rattle.guard_editions.proofs.Cases.{cases-hold}
 
-module _ (c : Chip) (f : T (fits c)) (m : Model) (h : Sound c m) where
+module _ (c : Chip) (has : isArmv6m c ≡ false) (f : T (fits c)) (m : Model) (h : Sound c m) where
   -- an access event on a sound state is the access call
   called : (access : Access) (w a : ℕ) → stepOf c m (asks access w a) ≡ accessCall c m (number access) w a
   unfolding accessNumber
@@ -41,26 +40,26 @@ module _ (c : Chip) (f : T (fits c)) (m : Model) (h : Sound c m) where
   called Fetch w a = step-sound f h (asks Fetch w a)
 
   aligned : (access : Access) (w a : ℕ) → T (fitsAccess (number access) w) → a % w ≡ 0 → accessCall c m (number access) w a ≡ done (verdictIn c m access a) m
-  unfolding accessAt purposeOf
-  aligned Read w a t q = simp (true-is (fitsAccess 0 w) t, eq-eqb (a % w) 0 q)
-  aligned Write w a t q = simp (true-is (fitsAccess 1 w) t, eq-eqb (a % w) 0 q)
-  aligned Fetch w a t q = simp (true-is (fitsAccess 2 w) t, eq-eqb (a % w) 0 q)
+  unfolding accessAt accessBy purposeOf
+  aligned Read w a t q = simp (has, true-is (fitsAccess 0 w) t, eq-eqb (a % w) 0 q)
+  aligned Write w a t q = simp (has, true-is (fitsAccess 1 w) t, eq-eqb (a % w) 0 q)
+  aligned Fetch w a t q = simp (has, true-is (fitsAccess 2 w) t, eq-eqb (a % w) 0 q)
 
   unaligned : (access : Access) (w a : ℕ) → T (fitsAccess (number access) w) → a % w ≢ 0 → accessCall c m (number access) w a ≡ refuse 2 m
-  unfolding accessAt
-  unaligned Read w a t q = simp (true-is (fitsAccess 0 w) t, ne-eqb (a % w) 0 q)
-  unaligned Write w a t q = simp (true-is (fitsAccess 1 w) t, ne-eqb (a % w) 0 q)
-  unaligned Fetch w a t q = simp (true-is (fitsAccess 2 w) t, ne-eqb (a % w) 0 q)
+  unfolding accessAt accessBy
+  unaligned Read w a t q = simp (has, true-is (fitsAccess 0 w) t, ne-eqb (a % w) 0 q)
+  unaligned Write w a t q = simp (has, true-is (fitsAccess 1 w) t, ne-eqb (a % w) 0 q)
+  unaligned Fetch w a t q = simp (has, true-is (fitsAccess 2 w) t, ne-eqb (a % w) 0 q)
 
-shared : (c : Chip) → Shared c
-shared c =
+shared : (c : Chip) → isArmv6m c ≡ false → Shared c
+shared c has =
     record {
-      answered = λ f m h access w a t q. called c f m h access w a ∙ aligned c f m h access w a t q;
+      answered = λ f m h access w a t q. called c has f m h access w a ∙ aligned c has f m h access w a t q;
       every = λ m access a. laws.allows-or-faults (c .guard) (m .core .guard) access a (privileged (m .core)) (isNegative (execution m));
-      unaligned = λ f m h access w a t q. called c f m h access w a ∙ unaligned c f m h access w a t q;
+      unaligned = λ f m h access w a t q. called c has f m h access w a ∙ unaligned c has f m h access w a t q;
       default-map = λ m access a. laws.default-map-decides (c .guard) (m .core .guard) access a (privileged (m .core)) (isNegative (execution m));
       system-fetch = λ m a. laws.system-never-fetched (c .guard) (m .core .guard) a (privileged (m .core)) (isNegative (execution m));
-      nesting = λ e w low high. demand3 (withEdition e (withBits w c)) (from-3-to-8 c w low high);
+      nesting = λ e w low high. demand3 (withEdition e (withBits w c)) (from-3-to-8 c w has low high);
     }
 
 old : (c : Chip) → c .guard ≡ Pmsav7 → First c

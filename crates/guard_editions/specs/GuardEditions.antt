@@ -25,7 +25,7 @@ use Rattle.script.specs.declared.Event.the-variants as event
 use Rattle.rules.specs.declared.Chip.{Chip}
 use Rattle.rules.specs.declared.Register.{Register}
 use Rattle.rules.specs.declared.Register.the-variants.{Missing, Guard}
-use Rattle.rules.specs.Chip.{chip55, chip240, fits, withBits, withEdition}
+use Rattle.rules.specs.Chip.{chip55, chip240, isArmv6m, fits, withBits, withEdition}
 use Rattle.rules.specs.Model.{Model, done, refuse, withGuard}
 use Rattle.rules.specs.Priorities.{execution, isNegative, privileged}
 use Rattle.rules.specs.Sound.{Sound}
@@ -134,7 +134,8 @@ pub record Registers : Type 0 where
   pub selected : (g : Mpu) (pair x : ℕ) → (writeMpu (mpu.Rbar pair) x g .region ≡ g .region) × (writeMpu (mpu.Rlar pair) x g .region ≡ g .region)
 
 pub record E12 : Type 0 where
-  pub shared : (c : Chip) → Shared c
+  -- of every chip that has a guard: the Cortex-M0 (E10) has none
+  pub shared : (c : Chip) → isArmv6m c ≡ false → Shared c
   pub old : (c : Chip) → c .guard ≡ Pmsav7 → First c
   pub next : (c : Chip) → c .guard ≡ Pmsav8 → Second c
   pub region : Region

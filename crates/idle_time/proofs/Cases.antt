@@ -22,5 +22,5 @@ use Rattle.rules.specs.Registers as registers
 use Rattle.rules.specs.Step as step
 
 pub cases-hold : Holds cases
-unfolding cases flags.wordOf flags.someFlag priority.leastActive priority.executionPriority priority.best priority.bestPending timer.tickOf timer.readControl timer.writeControl timer.writeReload timer.soundTimer mpu.freshMpu mpu.keptBase mpu.keptAttributes editions.guardRegisterAt editions.keptFirst editions.keptSecond editions.keptPlain guard.regionKept guard.plainKept guard.soundMpu model.fresh priorities.execution every.every sound.flagSound sound.byteSound sound.countSound sound.nestedSound sound.unusedSound sound.soundNest sound.soundFlags sound.soundSystem sound.isSized sound.isSound events.tickCall events.ticked events.someFall events.skipCall nesting.entered nesting.entryAt nesting.linkFits nesting.returnedMasks nesting.repended nesting.returned nesting.returnCall addresses.blockRegister addresses.registerAt addresses.widthRefusal reads.timerValue reads.timerRead reads.intctrlValue reads.systemValue reads.valueOf reads.afterRead writes.timerWritten writes.wordWritten registers.accessRefusal registers.laneOf registers.readCall registers.written registers.writeCall step.guarded step.admitted
+unfolding cases flags.wordOf flags.someFlag priority.leastActive priority.executionPriority priority.best priority.bestPending timer.tickOf timer.readControl timer.writeControl timer.writeReload timer.soundTimer mpu.freshMpu mpu.keptBase mpu.keptAttributes editions.guardRegisterAt editions.keptFirst editions.keptSecond editions.keptPlain guard.regionKept guard.plainKept guard.soundMpu model.fresh priorities.execution every.every sound.flagSound sound.byteSound sound.countSound sound.nestedSound sound.unusedSound sound.soundNest sound.soundFlags sound.soundSystem sound.isSized sound.isSound events.tickCall events.ticked events.someFall events.skipCall nesting.entered nesting.entryAt nesting.linkFits nesting.returnedMasks nesting.repended nesting.returned nesting.returnCall addresses.blockRegister addresses.registerAt addresses.widthRefusal reads.timerValue reads.timerRead reads.showsBase reads.intctrlValue reads.systemValue reads.valueOf reads.afterRead writes.timerWritten writes.wordWritten registers.accessRefusal registers.laneOf registers.readCall registers.written registers.writeCall step.guarded step.admitted
 cases-hold = (refl, (refl, (refl, (refl, (refl, (refl, (refl, (refl, (refl, (refl, (refl, (refl, (refl, (refl, (refl, (refl, (refl, (refl, (refl, (refl, (refl, (refl, (refl, (refl, (refl, (refl, (refl, (refl, (refl, (refl, (refl, tt)))))))))))))))))))))))))))))))

@@ -19,6 +19,7 @@ use Rattle.script.specs.Event.{accessNumber, kindOf}
 use Rattle.script.specs.declared.Event.{Event}
 use Rattle.script.specs.declared.Event.the-variants as event
 use Rattle.rules.specs.declared.Chip.{Chip}
+use Rattle.rules.specs.Chip.{isArmv6m}
 use Rattle.rules.specs.declared.Bank.{Bank}
 use Rattle.rules.specs.declared.Bank.the-variants.{EnableSet, EnableClear, PendingSet, PendingClear, Active}
 use Rattle.rules.specs.declared.Register.{Register}
@@ -29,13 +30,13 @@ use Rattle.rules.specs.declared.System.{System}
 use Rattle.rules.specs.Model.{Model, Answer, done, stack, down, top, withActive, withNest, withLost, withDepth, withMasks, withTimer}
 use Rattle.rules.specs.Priorities.{execution, isNegative, privileged}
 use Rattle.rules.specs.SkipLaws.{skip-timer}
-use Rattle.rules.specs.Events.{levelled, lostCall, tickedModel, tickCall, escalates, raised, faultException, faultStatus, faultRaised, faultAt, svcAt, specialAt}
+use Rattle.rules.specs.Events.{levelled, lostCall, tickedModel, tickCall, escalates, raised, faultException, faultStatus, faultRaised, faultAt, svcAt, lacksSpecial, specialAt}
 use Rattle.rules.specs.Nesting.{chosen, entered, enter, entryAt, linkFits, returnedMasks, repended, returned, returnCall}
 use Rattle.rules.specs.Map.{registerOf}
 use Rattle.rules.specs.Reads.{bankValue, systemValue, valueOf, afterRead}
 use Rattle.rules.specs.Writes.{bankWritten, systemWritten, wordWritten, byteWritten}
 use Rattle.rules.specs.Registers.{accessRefusal, readCall, freeWrite, written, writeCall}
-use Rattle.rules.specs.Access.{fitsAccess, accessAt}
+use Rattle.rules.specs.Access.{fitsAccess, accessAt, accessBy}
 use Rattle.rules.specs.Step.{actOf}
 
 -- an answer with other counts in the state that it leaves
@@ -60,6 +61,7 @@ module _ (c : Chip) (m : Model) where
   read-levels (reg.Priority n) = refl
   read-levels (reg.System r) = refl
   read-levels (reg.Guard r) = refl
+  read-levels (reg.Constant k) = refl
 
   bank-levels : (b : Bank) (n v : ℕ) → Level (bankWritten b n v m)
   unfolding bankWritten
@@ -93,6 +95,7 @@ module _ (c : Chip) (m : Model) where
   word-levels (reg.Priority n) v = refl
   word-levels (reg.System r) v = system-levels r v
   word-levels (reg.Guard r) v = refl
+  word-levels (reg.Constant k) v = refl
 
   byte-levels : (r : Register) (lane v : ℕ) → Level (byteWritten c r lane v m)
   unfolding byteWritten
@@ -102,16 +105,17 @@ module _ (c : Chip) (m : Model) where
   byte-levels (reg.Priority n) lane v = refl
   byte-levels (reg.System r) lane v = refl
   byte-levels (reg.Guard r) lane v = refl
+  byte-levels (reg.Constant k) lane v = refl
 
-  raised-levels : (e : ℤ) (n : ℕ) (s : System) → Leaves (raised e m n s)
+  raised-levels : (e : ℤ) (n : ℕ) (s : System) → Leaves (raised c e m n s)
   unfolding raised
   raised-levels e n s = by-cases Leaves (escalates e m n) (λ _. refl) (λ _. refl)
 
-  fault-levels : (e : ℤ) (b a : ℕ) → Leaves (faultAt e m b a)
+  fault-levels : (e : ℤ) (b a : ℕ) → Leaves (faultAt c e m b a)
   unfolding faultAt
   fault-levels e b a = go (faultException b)
     where
-      go : (o : Found) → Leaves (faultRaised e m o b a)
+      go : (o : Found) → Leaves (faultRaised c e m o b a)
       go Nothing = refl
       go (At n) = by-cases Leaves (isNegative e) (λ _. refl) (λ _. raised-levels e n (faultStatus b a (m .core .system)))
 
@@ -124,10 +128,10 @@ module _ (c : Chip) (m : Model) where
   ticked-levels t = by-cases Level (t .pends) (λ _. refl) (λ _. refl)
 
   pub same-levels : (e : Event) → kindOf e ≢ 3 → Leaves (actOf c m e)
-  unfolding kindOf readCall writeCall written lostCall tickCall svcAt specialAt entryAt returnCall returned repended accessAt
-  same-levels (event.Read w a) n3 = by-cases Leaves (eqb (accessRefusal (registerOf c a) (privileged (m .core)) w a) 0) (λ _. read-levels (registerOf c a)) (λ _. refl)
+  unfolding kindOf readCall writeCall written lostCall tickCall svcAt specialAt entryAt returnCall returned repended accessAt accessBy
+  same-levels (event.Read w a) n3 = by-cases Leaves (eqb (accessRefusal c (registerOf c a) (privileged (m .core)) w a) 0) (λ _. read-levels (registerOf c a)) (λ _. refl)
   same-levels (event.Write w a v) n3 =
-      by-cases Leaves (eqb (accessRefusal (registerOf c a) (privileged (m .core) || freeWrite (m .core) w a) w a) 0)
+      by-cases Leaves (eqb (accessRefusal c (registerOf c a) (privileged (m .core) || freeWrite (m .core) w a) w a) 0)
       (λ _. by-cases Level (eqb w 4) (λ _. word-levels (registerOf c a) v) (λ _. byte-levels (registerOf c a) (a % 4) v))
       (λ _. refl)
   same-levels (event.Line line level) n3 = absurd (n3 refl)
@@ -135,14 +139,15 @@ module _ (c : Chip) (m : Model) where
   same-levels event.Tick n3 = ticked-levels (tickOf (m .core .timer))
   same-levels (event.Fault b a) n3 = fault-levels (execution m) b a
   same-levels event.Svc n3 = by-cases Leaves (isNegative (execution m)) (λ _. refl) (λ _. raised-levels (execution m) 11 (m .core .system))
-  same-levels (event.Special which v) n3 = by-cases Leaves (ltb 4 which) (λ _. refl) (λ _. by-cases Leaves (privileged (m .core)) (λ _. refl) (λ _. refl))
+  same-levels (event.Special which v) n3 = by-cases Leaves (ltb 4 which || lacksSpecial c which) (λ _. refl) (λ _. by-cases Leaves (privileged (m .core)) (λ _. refl) (λ _. refl))
   same-levels event.Entry n3 = enter-levels (chosen m)
   same-levels (event.Return v) n3 =
       by-cases Leaves (linkFits (m .core .depth) v) (λ _. by-cases Level (on (m .level) (top (stack m))) (λ _. refl) (λ _. refl)) (λ _. refl)
   same-levels (event.Access kind w a) n3 =
-      by-cases Leaves (ltb 2 (accessNumber kind)) (λ _. refl)
+      by-cases Leaves (isArmv6m c) (λ _. refl)
+      (λ _. by-cases Leaves (ltb 2 (accessNumber kind)) (λ _. refl)
       (λ _. by-cases Leaves (not (fitsAccess (accessNumber kind) w)) (λ _. refl)
-      (λ _. by-cases Leaves (not (eqb (a % w) 0)) (λ _. refl) (λ _. refl)))
+      (λ _. by-cases Leaves (not (eqb (a % w) 0)) (λ _. refl) (λ _. refl))))
   same-levels (event.Lost line) n3 = by-cases Leaves (leb (c .lines) line) (λ _. refl) (λ _. refl)
   same-levels (event.Skip n) n3 = subst Leaves (sym (skip-timer m n)) (ticked-levels (skipOf n (m .core .timer)))
 
@@ -194,6 +199,7 @@ module _ (c : Chip) (m : Model) (x : List ℕ) where
   value-frame (reg.Priority n) = refl
   value-frame (reg.System r) = system-value r
   value-frame (reg.Guard r) = refl
+  value-frame (reg.Constant k) = refl
 
   read-frame : (r : Register) → afterRead r (withLost x m) ≡ withLost x (afterRead r m)
   unfolding afterRead
@@ -203,6 +209,7 @@ module _ (c : Chip) (m : Model) (x : List ℕ) where
   read-frame (reg.Priority n) = refl
   read-frame (reg.System r) = refl
   read-frame (reg.Guard r) = refl
+  read-frame (reg.Constant k) = refl
 
   bank-frame : (b : Bank) (n v : ℕ) → bankWritten b n v (withLost x m) ≡ withLost x (bankWritten b n v m)
   unfolding bankWritten
@@ -236,6 +243,7 @@ module _ (c : Chip) (m : Model) (x : List ℕ) where
   word-frame (reg.Priority n) v = refl
   word-frame (reg.System r) v = system-frame r v
   word-frame (reg.Guard r) v = refl
+  word-frame (reg.Constant k) v = refl
 
   byte-frame : (r : Register) (lane v : ℕ) → byteWritten c r lane v (withLost x m) ≡ withLost x (byteWritten c r lane v m)
   unfolding byteWritten
@@ -245,16 +253,17 @@ module _ (c : Chip) (m : Model) (x : List ℕ) where
   byte-frame (reg.Priority n) lane v = refl
   byte-frame (reg.System r) lane v = refl
   byte-frame (reg.Guard r) lane v = refl
+  byte-frame (reg.Constant k) lane v = refl
 
-  raised-frame : (e : ℤ) (n : ℕ) (s : System) → raised e (withLost x m) n s ≡ counting x (raised e m n s)
+  raised-frame : (e : ℤ) (n : ℕ) (s : System) → raised c e (withLost x m) n s ≡ counting x (raised c e m n s)
   unfolding raised escalates
   raised-frame e n s = choice (escalates e m n) _ _ refl refl
 
-  fault-frame : (e : ℤ) (b a : ℕ) → faultAt e (withLost x m) b a ≡ counting x (faultAt e m b a)
+  fault-frame : (e : ℤ) (b a : ℕ) → faultAt c e (withLost x m) b a ≡ counting x (faultAt c e m b a)
   unfolding faultAt
   fault-frame e b a = go (faultException b)
     where
-      go : (o : Found) → faultRaised e (withLost x m) o b a ≡ counting x (faultRaised e m o b a)
+      go : (o : Found) → faultRaised c e (withLost x m) o b a ≡ counting x (faultRaised c e m o b a)
       go Nothing = refl
       go (At n) = choice (isNegative e) _ _ refl (raised-frame e n _)
 
@@ -273,13 +282,18 @@ module _ (c : Chip) (m : Model) (x : List ℕ) where
   ticked-frame : (t : Ticked) → tickedModel t (withLost x m) ≡ withLost x (tickedModel t m)
   ticked-frame t = ap (withTimer (t .timer)) (model-choice (t .pends) _ _ refl refl)
 
+  access-frame : (e : ℤ) (k w a : ℕ) → accessAt (c .guard) e (withLost x m) k w a ≡ counting x (accessAt (c .guard) e m k w a)
+  unfolding accessAt
+  access-frame e k w a =
+      choice (ltb 2 k) _ _ refl (choice (not (fitsAccess k w)) _ _ refl (choice (not (eqb (a % w) 0)) _ _ refl refl))
+
   -- every event but a level event and event 12
   pub same-frame : (e : Event) → kindOf e ≢ 3 → kindOf e ≢ 12 → actOf c (withLost x m) e ≡ counting x (actOf c m e)
-  unfolding kindOf readCall writeCall written tickCall svcAt specialAt entryAt returnCall accessAt execution
+  unfolding kindOf readCall writeCall written tickCall svcAt specialAt entryAt returnCall accessBy execution
   same-frame (event.Read w a) n3 n12 =
-      choice (eqb (accessRefusal (registerOf c a) (privileged (m .core)) w a) 0) _ _ (rw (value-frame (registerOf c a), read-frame (registerOf c a))) refl
+      choice (eqb (accessRefusal c (registerOf c a) (privileged (m .core)) w a) 0) _ _ (rw (value-frame (registerOf c a), read-frame (registerOf c a))) refl
   same-frame (event.Write w a v) n3 n12 =
-      choice (eqb (accessRefusal (registerOf c a) (privileged (m .core) || freeWrite (m .core) w a) w a) 0) _ _
+      choice (eqb (accessRefusal c (registerOf c a) (privileged (m .core) || freeWrite (m .core) w a) w a) 0) _ _
       (ap (done 0) (model-choice (eqb w 4) _ _ (word-frame (registerOf c a) v) (byte-frame (registerOf c a) (a % 4) v)))
       refl
   same-frame (event.Line line level) n3 n12 = absurd (n3 refl)
@@ -287,12 +301,11 @@ module _ (c : Chip) (m : Model) (x : List ℕ) where
   same-frame event.Tick n3 n12 = ap (done (bit (tickOf (m .core .timer) .fell))) (ticked-frame (tickOf (m .core .timer)))
   same-frame (event.Fault b a) n3 n12 = fault-frame (execution m) b a
   same-frame event.Svc n3 n12 = choice (isNegative (execution m)) _ _ refl (raised-frame (execution m) 11 (m .core .system))
-  same-frame (event.Special which v) n3 n12 = choice (ltb 4 which) _ _ refl (choice (privileged (m .core)) _ _ refl refl)
+  same-frame (event.Special which v) n3 n12 = choice (ltb 4 which || lacksSpecial c which) _ _ refl (choice (privileged (m .core)) _ _ refl refl)
   same-frame event.Entry n3 n12 = enter-frame (chosen m)
   same-frame (event.Return v) n3 n12 =
       choice (linkFits (m .core .depth) v) _ _ (ap (done (top (down (m .nest) (pred (m .core .depth))))) (returned-frame v)) refl
-  same-frame (event.Access kind w a) n3 n12 =
-      choice (ltb 2 (accessNumber kind)) _ _ refl (choice (not (fitsAccess (accessNumber kind) w)) _ _ refl (choice (not (eqb (a % w) 0)) _ _ refl refl))
+  same-frame (event.Access kind w a) n3 n12 = choice (isArmv6m c) _ _ refl (access-frame (execution m) (accessNumber kind) w a)
   same-frame (event.Lost line) n3 n12 = absurd (n12 refl)
   same-frame (event.Skip n) n3 n12 =
       skip-timer (withLost x m) n

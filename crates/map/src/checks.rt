@@ -4,6 +4,7 @@ ghost use Prim.Native.Nat.{_%_};
 ghost use lib.Dec.{eqb};
 ghost use Rattle.rules.specs.Registers.{isWidth, accessRefusal, laneOf};
 use super::width_refusal;
+use rules::Chip;
 use rules::Register;
 
 pub fn is_width(w: u32) -> bool
@@ -27,13 +28,13 @@ pub fn is_aligned(a: u32, w: u32) -> bool
 }
 
 // 0 where the access is let through; `allowed` says that its privilege suffices.
-pub fn access_refusal(register: Register, allowed: bool, w: u32, a: u32) -> u32
-    ensures { λ r. ⌜ r ≡ accessRefusal register allowed w a ⌝ }
+pub fn access_refusal(chip: Chip, register: Register, allowed: bool, w: u32, a: u32) -> u32
+    ensures { λ r. ⌜ r ≡ accessRefusal chip register allowed w a ⌝ }
 {
     if is_width(w) {
         if is_aligned(a, w) {
             if allowed {
-                return width_refusal(register, w);
+                return width_refusal(chip, register, w);
             }
             return 3;
         }

@@ -1,12 +1,15 @@
 // The register map: the register at an address, and the widths that it takes.
 ghost use mathlib.Core.Path.{_≡_};
-ghost use mathlib.Core.Bool.{cond};
+ghost use mathlib.Core.Bool.{cond, _&&_, _||_};
 ghost use lib.Dec.{eqb};
 ghost use Prim.Native.Nat.{_+_, _-_, _^_, _<_, _≤_};
 ghost use Rattle.mpu.specs.Editions.{guardRegisterAt};
 ghost use Rattle.rules.specs.declared.Register.the-variants.{Flags, Priority};
-ghost use Rattle.rules.specs.Map.{flagWords, byteWords, inBlock, firstFlag, guardRegister, blockRegister, registerAt, widthRefusal};
+ghost use Rattle.rules.specs.Blocks.{flagWords, byteWords, inBlock, firstFlag, bankRegister};
+ghost use Rattle.rules.specs.Map.{guardRegister, blockRegister, registerAt, registerOf, widthRefusal};
+ghost use Rattle.rules.specs.Chip.{isArmv6m};
 
+mod armv6m;
 pub mod checks;
 
 use mpu::MpuRegister;
@@ -93,6 +96,16 @@ fn guard_or(chip: Chip, a: u32, otherwise: Register) -> Register
     otherwise
 }
 
+// The banks that both profiles have, from the last to the first.
+fn bank_register(chip: Chip, a: u32, otherwise: Register) -> Register
+    ensures { λ r. ⌜ r ≡ bankRegister chip a otherwise ⌝ }
+{
+    let clear = flags_or(chip, 0xe000e280, Bank::PendingClear, a, otherwise);
+    let set = flags_or(chip, 0xe000e200, Bank::PendingSet, a, clear);
+    let disable = flags_or(chip, 0xe000e180, Bank::EnableClear, a, set);
+    flags_or(chip, 0xe000e100, Bank::EnableSet, a, disable)
+}
+
 // The blocks, whose length is the chip's, from the last to the first.
 fn block_register(chip: Chip, a: u32) -> Register
     ensures { λ r. ⌜ r ≡ blockRegister chip a ⌝ }
@@ -100,14 +113,11 @@ fn block_register(chip: Chip, a: u32) -> Register
     let guard = guard_or(chip, a, Register::Missing);
     let bytes = bytes_or(chip, a, guard);
     let active = flags_or(chip, 0xe000e300, Bank::Active, a, bytes);
-    let clear = flags_or(chip, 0xe000e280, Bank::PendingClear, a, active);
-    let set = flags_or(chip, 0xe000e200, Bank::PendingSet, a, clear);
-    let disable = flags_or(chip, 0xe000e180, Bank::EnableClear, a, set);
-    flags_or(chip, 0xe000e100, Bank::EnableSet, a, disable)
+    bank_register(chip, a, active)
 }
 
-// The register at an aligned address.
-pub fn register_at(chip: Chip, address: u32) -> Register
+// ARMv7-M's register at an aligned address.
+fn register_at(chip: Chip, address: u32) -> Register
     ensures { λ r. ⌜ r ≡ registerAt chip address ⌝ }
 {
     match address {
@@ -134,6 +144,17 @@ pub fn register_at(chip: Chip, address: u32) -> Register
     }
 }
 
+// The register of the word that holds the address.
+pub fn register_of(chip: Chip, address: u32) -> Register
+    ensures { λ r. ⌜ r ≡ registerOf chip address ⌝ }
+{
+    let aligned = address - address % 4;
+    if chip.is_armv6m() {
+        return armv6m::register_at(chip, aligned);
+    }
+    register_at(chip, aligned)
+}
+
 fn word_only(w: u32) -> u32
     ensures { λ r. ⌜ r ≡ cond (eqb w 4) 0 5 ⌝ }
 {
@@ -143,21 +164,32 @@ fn word_only(w: u32) -> u32
     5
 }
 
+// Priority bytes are read and written one by one too, but not on ARMv6-M.
+fn bytes_too(chip: Chip, w: u32) -> u32
+    ensures { λ r. ⌜ r ≡ cond (eqb w 2 || (isArmv6m chip && eqb w 1)) 5 0 ⌝ }
+{
+    if w == 2 {
+        return 5;
+    }
+    if chip.is_armv6m() {
+        if w == 1 {
+            return 5;
+        }
+    }
+    0
+}
+
 // 4 where there is no register, 5 where the width is not allowed, else 0.
-pub fn width_refusal(register: Register, w: u32) -> u32
-    ensures { λ r. ⌜ r ≡ widthRefusal register w ⌝ }
+pub fn width_refusal(chip: Chip, register: Register, w: u32) -> u32
+    ensures { λ r. ⌜ r ≡ widthRefusal chip register w ⌝ }
 {
     match register {
         Register::Missing => 4,
         Register::Timer(_) => word_only(w),
         Register::Flags(_, _) => word_only(w),
-        Register::Priority(_) => {
-            if w == 2 {
-                return 5;
-            }
-            0
-        }
+        Register::Priority(_) => bytes_too(chip, w),
         Register::System(_) => word_only(w),
         Register::Guard(_) => word_only(w),
+        Register::Constant(_) => word_only(w),
     }
 }

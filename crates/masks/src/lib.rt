@@ -47,10 +47,10 @@ fn basepri_raised(masks: Masks, b: u8) -> Masks
     masks
 }
 
-fn control_written(mut masks: Masks, v: u32, thread: bool) -> Masks
-    ensures { λ r. ⌜ r ≡ controlWritten v thread masks ⌝ }
+fn control_written(chip: Chip, mut masks: Masks, v: u32, thread: bool) -> Masks
+    ensures { λ r. ⌜ r ≡ controlWritten chip v thread masks ⌝ }
 {
-    masks.npriv = bits::test_bit(v, 0);
+    masks.npriv = both(!chip.is_armv6m(), bits::test_bit(v, 0));
     if thread {
         masks.spsel = bits::test_bit(v, 1);
         return masks;
@@ -74,7 +74,7 @@ pub fn special_written(
         1 => faultmask_written(masks, bits::test_bit(v, 0), negative),
         2 => with_basepri(masks, grouping::kept_byte(v, chip.bits)),
         3 => basepri_raised(masks, grouping::kept_byte(v, chip.bits)),
-        _ => control_written(masks, v, thread),
+        _ => control_written(chip, masks, v, thread),
     }
 }
 

@@ -14,7 +14,7 @@ use Rattle.model.specs.declared.Reply.{Reply}
 use Rattle.model.specs.View.{model, state, reply}
 use Rattle.model.specs.Demand1.{Refused, CodeDemand1}
 
-replied : (e : Event) (s : State) {a : Answer} → (a .refusal ≡ 0) ⊎ rules.Refused e (model s) a → (reply a .refusal ≡ 0) ⊎ Refused e s (reply a)
+replied : (e : Event) (s : State) {a : Answer} → (a .refusal ≡ 0) ⊎ rules.Refused chip55 e (model s) a → (reply a .refusal ≡ 0) ⊎ Refused e s (reply a)
 replied e s (inl z) = inl z
 replied e s (inr r) =
     inr (record {

@@ -15,7 +15,7 @@ use Rattle.model.specs.View.{model, reply}
 
 -- "A refusal returns its number with every other field 0 and changes nothing."
 pub record Refused (e : Event) (s : State) (r : Reply) : Type 0 where
-  pub number : T (isIn (r .refusal) (refusals e))
+  pub number : T (isIn (r .refusal) (refusals chip55 e))
   pub value : r .value ≡ 0
   pub vector : r .vector ≡ 0
   pub link : r .link ≡ 0

@@ -8,6 +8,7 @@ ghost use Rattle.model.specs.View.{model, state};
 use mpu::Edition;
 use rules::Chip;
 use rules::Core;
+use rules::Profile;
 
 pub mod calls;
 
@@ -35,9 +36,10 @@ pub struct Reply {
 
 // `chip55` of the rules.
 pub const CHIP: Chip = Chip {
+    profile: Profile::Armv7m,
+    guard: Edition::Pmsav7,
     lines: 55,
     bits: 3,
-    guard: Edition::Pmsav7,
 };
 
 impl State {
@@ -52,7 +54,7 @@ impl State {
             priority: [0; 71],
             nest: [0; 63],
             lost: [0; 55],
-            core: parts::fresh_core(),
+            core: parts::fresh_core(CHIP),
         }
     }
 

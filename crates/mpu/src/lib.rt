@@ -6,6 +6,7 @@ ghost use Rattle.mpu.specs.Registers.{freshMpu, mpuRegisterAt, keptBase,
 ghost use Rattle.mpu.specs.Pmsav8.{readRbar, readRlar, withRbar, withRlar, withMair0, withMair1};
 ghost use Rattle.mpu.specs.Editions.{guardRegisterAt, keptFirst, keptSecond, keptPlain};
 ghost use Rattle.mpu.specs.Soundness.{regionKept, plainKept, soundMpu};
+ghost use Rattle.mpu.specs.Unused.{zeroAt, isUnused};
 use bools::both;
 use pmsav8::kept_rlar;
 use pmsav8::region_of;
@@ -150,6 +151,18 @@ fn regions_kept(edition: Edition, bases: &[u32], attributes: &[u32]) -> bool
     ok
 }
 
+fn all_clear(words: &[u32]) -> bool
+    ensures { λ r. ⌜ r ≡ every (zeroAt (now (words .entry))) (length (now (words .entry))) ⌝ }
+{
+    let mut ok = true;
+    let mut i = 0;
+    while i < words.len() {
+        ok = both(words[i] == 0, ok);
+        i += 1;
+    }
+    ok
+}
+
 impl Mpu {
     pub fn fresh() -> Mpu
         ensures { λ r. ⌜ r ≡ freshMpu ⌝ }
@@ -180,6 +193,18 @@ impl Mpu {
         let front = both(self.control < 8, self.region < 8);
         let words = both(front, regions_kept(edition, &bases, &attributes));
         both(words, self.plain_kept(edition))
+    }
+
+    // Whether all its words are 0, as those of a chip without a guard are.
+    pub fn is_unused(self) -> bool
+        ensures { λ r. ⌜ r ≡ isUnused self ⌝ }
+    {
+        let bases = self.bases;
+        let attributes = self.attributes;
+        let front = both(self.control == 0, self.region == 0);
+        let first = both(front, all_clear(&bases));
+        let second = both(first, all_clear(&attributes));
+        both(both(second, self.mair0 == 0), self.mair1 == 0)
     }
 
     fn read_rbar(self, pair: u32) -> u32

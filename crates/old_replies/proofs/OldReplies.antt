@@ -51,7 +51,7 @@ as-bench t g script small o outs here others there p q k l e f =
 -- ---- "An old script for 55 lines .. on the new chip"
 
 grown : Grown chip55 chip240
-grown = record { lines = omega arith; bits = refl; guard = refl; fit = tt }
+grown = record { lines = omega arith; bits = refl; guard = refl; profiles = (refl, refl); fit = tt }
 
 pub old-replies-55-240 : OldReplies (record { part = Lines55; bits = 3; guard = Pmsav7 }) (record { part = Lines240; bits = 3; guard = Pmsav7 })
 old-replies-55-240 = old-replies _ _ grown

@@ -25,9 +25,9 @@ use Rattle.rules.specs.Chip.{flagCount, exceptionCount, isIn}
 use Rattle.rules.specs.Model.{Model, Answer, refuse, done, down, stack, top, withPending, withActive, withEnabled, withLevel, withPriority, withNest, withLost, withCore, withDepth, withMasks, putDepth, putMasks, putTimer, putSystem}
 use Rattle.rules.specs.Priorities.{execution, isNegative, privileged}
 use Rattle.rules.specs.Sound.{Sound}
-use Rattle.rules.specs.Events.{pend, levelled, losesRise, oneMore, counted, lineCall, lostCall, nmiCall, tickedModel, tickCall, skipCall, escalates, forced, raised, faultException, faultStatus, faultRaised, faultAt, faultCall, svcAt, svcCall, specialWritten, specialAt, specialCall}
+use Rattle.rules.specs.Events.{pend, levelled, losesRise, oneMore, counted, lineCall, lostCall, nmiCall, tickedModel, tickCall, skipCall, escalates, forced, noted, raised, faultException, faultStatus, faultRaised, faultAt, faultCall, svcAt, svcCall, controlWritten, lacksSpecial, specialWritten, specialAt, specialCall}
 use Rattle.rules.specs.Nesting.{chosen, linkOf, withSpsel, entered, enter, entryAt, entryCall, linkFits, returnedMasks, repended, returned, returnCall}
-use Rattle.rules.specs.Access.{fitsAccess, accessAt, accessCall}
+use Rattle.rules.specs.Access.{fitsAccess, accessAt, accessBy, accessCall}
 use Rattle.rules.specs.Laws.{link-deep}
 use Rattle.rules.specs.SkipLaws.{skip-timer}
 use Rattle.demand3.proofs.Nesting.{execution-nest, chosen-below, top-below}
@@ -80,6 +80,9 @@ meets-done e a = record { refusal = refl; value = e; vector = refl; link = refl;
 
 pub more : {c d : Chip} → Grown c d → flagCount c ≤ flagCount d
 more g = let l = g .lines in omega arith
+
+more-places : {c d : Chip} → Grown c d → exceptionCount c ≤ exceptionCount d
+more-places g = let l = g .lines in rw (g .profiles .0, g .profiles .1) (omega arith)
 
 -- ---- the parts of two calls that both chips share
 
@@ -196,45 +199,46 @@ module _ {c d : Chip} (g : Grown c d) {m t : Model} (h : Sound c m) (k : Sound d
   unfolding escalates
   escalates-same e n = rw (a .enabled .each n, a .core, same-group (t .core .group) (m .priority) (t .priority) (a .priority) n)
 
-  raised-meets : (e : ℤ) (n : ℕ) (f : System → System) → n < 16 → Meets (raised e m n (f (m .core .system))) (raised e t n (f (t .core .system)))
-  unfolding raised
+  raised-meets : (e : ℤ) (n : ℕ) (f : System → System) → n < 16 → Meets (raised c e m n (f (m .core .system))) (raised d e t n (f (t .core .system)))
+  unfolding raised noted
   raised-meets e n f l =
-      both-ways Meets (escalates e m n) (escalates e t n) (escalates-same e n)
+      rw (g .profiles .0, g .profiles .1)
+      (both-ways Meets (escalates e m n) (escalates e t n) (escalates-same e n)
       (λ _. meets-done refl (put-core (pended 3 (omega arith)) (λ x. putSystem (forced (f (x .system))) x)))
-      (λ _. meets-done refl (put-core (pended n (omega arith)) (λ x. putSystem (f (x .system)) x)))
+      (λ _. meets-done refl (put-core (pended n (omega arith)) (λ x. putSystem (f (x .system)) x))))
 
-  pub fault-meets : (b address : ℕ) → Meets (faultCall m b address) (faultCall t b address)
+  pub fault-meets : (b address : ℕ) → Meets (faultCall c m b address) (faultCall d t b address)
   unfolding faultAt faultException
   fault-meets b address =
-      at-execution (λ e. faultAt e m b address) (λ e. faultAt e t b address)
+      at-execution (λ e. faultAt c e m b address) (λ e. faultAt d e t b address)
       (λ e. by-cases (To e) (isIn b (0 ∷ 1 ∷ [])) (λ _. raise e 4 (omega arith))
       (λ _. by-cases (To e) (isIn b (8 ∷ 9 ∷ [])) (λ _. raise e 5 (omega arith))
       (λ _. by-cases (To e) (isIn b (16 ∷ 17 ∷ 18 ∷ 19 ∷ 24 ∷ 25 ∷ [])) (λ _. raise e 6 (omega arith))
       (λ _. meets-refuse refl a))))
     where
       To : ℤ → Found → Type 0
-      To e o = Meets (faultRaised e m o b address) (faultRaised e t o b address)
+      To e o = Meets (faultRaised c e m o b address) (faultRaised d e t o b address)
 
       raise : (e : ℤ) (n : ℕ) → n < 16 → To e (At n)
       raise e n l = both-ways Meets (isNegative e) (isNegative e) refl (λ _. meets-refuse refl a) (λ _. raised-meets e n (faultStatus b address) l)
 
-  pub svc-meets : Meets (svcCall m) (svcCall t)
+  pub svc-meets : Meets (svcCall c m) (svcCall d t)
   unfolding svcAt
   svc-meets =
-      at-execution (λ e. svcAt e m) (λ e. svcAt e t)
+      at-execution (λ e. svcAt c e m) (λ e. svcAt d e t)
       (λ e. both-ways Meets (isNegative e) (isNegative e) refl (λ _. meets-refuse refl a) (λ _. raised-meets e 11 (λ s. s) (omega arith)))
 
   -- ---- special registers
 
   special-same : (e : ℤ) (which v : ℕ) (x : Core) → specialCore c e which v x ≡ specialCore d e which v x
-  unfolding specialWritten
-  special-same e which v x = rw (g .bits)
+  unfolding specialWritten controlWritten
+  special-same e which v x = rw (g .bits, g .profiles .0, g .profiles .1)
 
   pub special-meets : (which v : ℕ) → Meets (specialCall c m which v) (specialCall d t which v)
   unfolding specialAt
   special-meets which v =
       at-execution (λ e. specialAt e c m which v) (λ e. specialAt e d t which v)
-      (λ e. both-ways Meets (ltb 4 which) (ltb 4 which) refl (λ _. meets-refuse refl a)
+      (λ e. both-ways Meets (ltb 4 which || lacksSpecial c which) (ltb 4 which || lacksSpecial d which) (rw (g .profiles .0, g .profiles .1)) (λ _. meets-refuse refl a)
       (λ _. both-ways Meets (privileged (m .core)) (privileged (t .core)) (ap privileged (a .core))
       (λ _. meets-done refl (subst (λ (x : Core). Alike (withCore (specialCore c e which v (m .core)) m) (withCore x t)) (special-same e which v (t .core)) (put-core a (specialCore c e which v))))
       (λ _. meets-done refl a)))
@@ -254,7 +258,7 @@ module _ {c d : Chip} (g : Grown c d) {m t : Model} (h : Sound c m) (k : Sound d
         next =
             put-core
             (put-nest (put-active (put-pending a (same-clear false n (a .pending))) (held-set (more g) n true (b .0) actives .same))
-            (subst (λ (x : Core). Same 0 (set (m .nest) (m .core .depth) n) (set (t .nest) (x .depth) n)) (a .core) (held-set (let l = g .lines in omega arith) (m .core .depth) n (b .1) nests .same)))
+            (subst (λ (x : Core). Same 0 (set (m .nest) (m .core .depth) n) (set (t .nest) (x .depth) n)) (a .core) (held-set (more-places g) (m .core .depth) n (b .1) nests .same)))
             (λ x. putMasks (withSpsel false (x .masks)) (putDepth (suc (x .depth)) x));
       }
 
@@ -289,10 +293,10 @@ module _ {c d : Chip} (g : Grown c d) {m t : Model} (h : Sound c m) (k : Sound d
   -- ---- access verdicts
 
   pub access-meets : (kind w x : ℕ) → Meets (accessCall c m kind w x) (accessCall d t kind w x)
-  unfolding accessAt
+  unfolding accessAt accessBy
   access-meets kind w x =
-      at-execution (λ e. accessAt (c .guard) e m kind w x) (λ e. accessAt (d .guard) e t kind w x)
-      (λ e. both-ways Meets (ltb 2 kind) (ltb 2 kind) refl (λ _. meets-refuse refl a)
+      at-execution (λ e. accessBy c e m kind w x) (λ e. accessBy d e t kind w x)
+      (λ e. rw (g .profiles .0, g .profiles .1) (both-ways Meets (ltb 2 kind) (ltb 2 kind) refl (λ _. meets-refuse refl a)
       (λ _. both-ways Meets (not (fitsAccess kind w)) (not (fitsAccess kind w)) refl (λ _. meets-refuse refl a)
       (λ _. both-ways Meets (not (eqb (x % w) 0)) (not (eqb (x % w) 0)) refl (λ _. meets-refuse refl a)
-      (λ _. meets-done (rw (g .guard, a .core)) a))))
+      (λ _. meets-done (rw (g .guard, a .core)) a)))))

@@ -24,9 +24,9 @@ use Rattle.old_scripts.proofs.Lists.{same-fresh}
 use Rattle.old_scripts.proofs.Calls.{Meets, execution-same, stack-same, line-meets, lost-meets, nmi-meets, tick-meets, skip-meets, fault-meets, svc-meets, special-meets, entry-meets, return-meets, access-meets}
 use Rattle.old_scripts.proofs.Registers.{read-meets, write-meets}
 
-fresh-alike : (c d : Chip) → Alike (fresh c) (fresh d)
+fresh-alike : {c d : Chip} → Grown c d → Alike (fresh c) (fresh d)
 unfolding fresh
-fresh-alike c d =
+fresh-alike {c} {d} grown =
     let f = flagCount c in
     let g = flagCount d in
     record {
@@ -37,12 +37,12 @@ fresh-alike c d =
       priority = same-fresh 0 f g;
       nest = same-fresh 0 (exceptionCount c) (exceptionCount d);
       lost = same-fresh 0 (c .lines) (d .lines);
-      core = refl;
+      core = rw (grown .profiles .0, grown .profiles .1);
     }
 
 module _ {c d : Chip} (g : Grown c d) where
   pub fits-too : T (fits d)
-  fits-too = subst (λ (w : ℕ). T (leb 3 w && leb w 8)) (g .bits) (g .fit)
+  fits-too = rw (g .profiles .1) (subst (λ (w : ℕ). T (leb 3 w && leb w 8)) (g .bits) (rw (g .profiles .0) at (g .fit)))
 
   act-meets : {m t : Model} → Sound c m → Sound d t → Alike m t → (e : Event) → T (isOld c d e) → Meets (actOf c m e) (actOf d t e)
   unfolding isOld
@@ -112,8 +112,8 @@ old-scripts {c} {d} g =
     }
   where
     agree : (es : List Event) → T (areOld c d es) → Agreeing (answersOf c (fresh c) es) (answersOf d (fresh d) es)
-    agree es o = answers-agree g (sound-fresh c) (sound-fresh d) (fresh-alike c d) es o
+    agree es o = answers-agree g (sound-fresh c) (sound-fresh d) (fresh-alike g) es o
 
 -- "An old script for 55 lines gives the same output lines on the new chip"
 pub old-scripts-55-240 : OldScripts chip55 chip240
-old-scripts-55-240 = old-scripts (record { lines = omega arith; bits = refl; guard = refl; fit = tt })
+old-scripts-55-240 = old-scripts (record { lines = omega arith; bits = refl; guard = refl; profiles = (refl, refl); fit = tt })

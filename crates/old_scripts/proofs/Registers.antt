@@ -30,8 +30,9 @@ use Rattle.rules.specs.Chip.{flagCount, hasByte}
 use Rattle.rules.specs.Model.{Model, stack, top, withSystem, putGroup, putTimer, putGuard, putSystem}
 use Rattle.rules.specs.Priorities.{privileged}
 use Rattle.rules.specs.Sound.{Sound}
-use Rattle.rules.specs.Map.{inBlock, flagWords, byteWords, firstFlag, guardRegister, blockRegister, registerAt, registerOf, widthRefusal}
-use Rattle.rules.specs.Reads.{timerValue, timerRead, bankValue, bytesValue, intctrlValue, syshndctrlValue, systemValue, valueOf, afterRead}
+use Rattle.rules.specs.Blocks.{inBlock, flagWords, byteWords, firstFlag}
+use Rattle.rules.specs.Map.{guardRegister, blockRegister, registerAt, registerOf, widthRefusal}
+use Rattle.rules.specs.Reads.{timerValue, timerRead, bankValue, bytesValue, showsBase, intctrlValue, syshndctrlValue, systemValue, valueOf, afterRead}
 use Rattle.rules.specs.Writes.{timerWritten, clearable, bankWritten, withByte, withBytes, setOrClear, intctrlWritten, syshndctrlWritten, apintWritten, swtrigWritten, storedWritten, systemWritten, wordWritten, byteWritten}
 use Rattle.rules.specs.Registers.{isWidth, accessRefusal, laneOf, readCall, freeWrite, written, writeCall}
 use Rattle.old_scripts.specs.Alike.{Same, Alike}
@@ -138,7 +139,7 @@ module _ {c d : Chip} (g : Grown c d) where
 
     register-same : registerOf c a ≡ registerOf d a
     unfolding registerAt
-    register-same = rw block-same
+    register-same = rw (g .profiles .0, g .profiles .1, block-same)
 
 -- ---- where a register stands: a word of flags within those of c, a byte too, and a word of bytes but for the mixed one
 
@@ -164,6 +165,7 @@ Placed c w a (reg.Flags b n) = n + 32 ≤ flagCount c
 Placed c w a (reg.Priority n) = (n + a % 4 < flagCount c) × (w ≡ 4 → a % 4 ≡ 0 → n + 4 ≤ flagCount c)
 Placed c w a (reg.System r) = SystemAt r (aligned a)
 Placed c w a (reg.Guard r) = Unit {0}
+Placed c w a (reg.Constant x) = Unit {0}
 
 module _ {c d : Chip} (g : Grown c d) {w a : ℕ} (o : Apart c d w a) where
   guard-placed : (r : MpuRegister) → Placed c w a (guardRegister r)
@@ -207,7 +209,8 @@ module _ {c d : Chip} (g : Grown c d) {w a : ℕ} (o : Apart c d w a) where
   register-placed : Placed c w a (registerOf c a)
   unfolding Placed registerAt
   register-placed =
-      by-cases (Placed c w a) (eqb (aligned a) 0xE000E004) (eqb→eq (aligned a) 0xE000E004)
+      rw (g .profiles .0)
+      (by-cases (Placed c w a) (eqb (aligned a) 0xE000E004) (eqb→eq (aligned a) 0xE000E004)
       (λ _. by-cases (Placed c w a) (eqb (aligned a) 0xE000E010) (λ _. tt)
       (λ _. by-cases (Placed c w a) (eqb (aligned a) 0xE000E014) (λ _. tt)
       (λ _. by-cases (Placed c w a) (eqb (aligned a) 0xE000E018) (λ _. tt)
@@ -225,23 +228,23 @@ module _ {c d : Chip} (g : Grown c d) {w a : ℕ} (o : Apart c d w a) where
       (λ _. by-cases (Placed c w a) (eqb (aligned a) 0xE000ED2C) (λ _. tt)
       (λ _. by-cases (Placed c w a) (eqb (aligned a) 0xE000ED34) (λ _. tt)
       (λ _. by-cases (Placed c w a) (eqb (aligned a) 0xE000ED38) (λ _. tt)
-      (λ _. by-cases (Placed c w a) (eqb (aligned a) 0xE000EF00) (eqb→eq (aligned a) 0xE000EF00) (λ _. block-placed)))))))))))))))))))
+      (λ _. by-cases (Placed c w a) (eqb (aligned a) 0xE000EF00) (eqb→eq (aligned a) 0xE000EF00) (λ _. block-placed))))))))))))))))))))
 
 -- ---- what an accepted access passes
 
-accepted : (r : Register) (allowed : Bool) (w a : ℕ) → T (eqb (accessRefusal r allowed w a) 0) → (a % w ≡ 0) × T (eqb (widthRefusal r w) 0)
+accepted : (c : Chip) (r : Register) (allowed : Bool) (w a : ℕ) → T (eqb (accessRefusal c r allowed w a) 0) → (a % w ≡ 0) × T (eqb (widthRefusal c r w) 0)
 unfolding accessRefusal
-accepted r allowed w a t = let p = go (isWidth w) (eqb (a % w) 0) allowed t in (eqb→eq (a % w) 0 (p .0), p .1)
+accepted c r allowed w a t = let p = go (isWidth w) (eqb (a % w) 0) allowed t in (eqb→eq (a % w) 0 (p .0), p .1)
   where
-    go : (x y z : Bool) → T (eqb (cond (not x) 1 (cond (not y) 2 (cond (not z) 3 (widthRefusal r w)))) 0) → T y × T (eqb (widthRefusal r w) 0)
+    go : (x y z : Bool) → T (eqb (cond (not x) 1 (cond (not y) 2 (cond (not z) 3 (widthRefusal c r w)))) 0) → T y × T (eqb (widthRefusal c r w) 0)
     go true true true u = (tt, u)
     go true true false u = absurd u
     go true false z u = absurd u
     go false y z u = absurd u
 
-word-only : (r : SystemRegister) (w : ℕ) → T (eqb (widthRefusal (reg.System r) w) 0) → w ≡ 4
+word-only : (c : Chip) (r : SystemRegister) (w : ℕ) → T (eqb (widthRefusal c (reg.System r) w) 0) → w ≡ 4
 unfolding widthRefusal
-word-only r w t = eqb→eq w 4 (go (eqb w 4) t)
+word-only c r w t = eqb→eq w 4 (go (eqb w 4) t)
   where
     go : (x : Bool) → T (eqb (cond x 0 5) 0) → T x
     go true u = tt
@@ -262,11 +265,11 @@ module _ {c d : Chip} (g : Grown c d) {m t : Model} (h : Sound c m) (k : Sound d
   unfolding bytesValue
   bytes-same n = let s = a .priority in rw (s .each n, s .each (n + 1), s .each (n + 2), s .each (n + 3))
 
-  intctrl-same : intctrlValue (m .pending) (m .core .depth) (top (stack m)) ≡ intctrlValue (t .pending) (t .core .depth) (top (stack t))
-  unfolding intctrlValue
+  intctrl-same : intctrlValue (m .pending) (showsBase c (m .core .depth)) (top (stack m)) ≡ intctrlValue (t .pending) (showsBase d (t .core .depth)) (top (stack t))
+  unfolding intctrlValue showsBase
   intctrl-same =
       let s = a .pending in
-      rw (stack-same g h k a, s .each 2, s .each 14, s .each 15, same-any (m .pending) (t .pending) 16 (omega arith) (more g) (pendings g h k a), a .core)
+      rw (stack-same g h k a, s .each 2, s .each 14, s .each 15, same-any (m .pending) (t .pending) 16 (omega arith) (more g) (pendings g h k a), g .profiles .0, g .profiles .1, a .core)
 
   syshndctrl-same : syshndctrlValue (m .pending) (m .active) (m .enabled) ≡ syshndctrlValue (t .pending) (t .active) (t .enabled)
   unfolding syshndctrlValue
@@ -300,6 +303,7 @@ module _ {c d : Chip} (g : Grown c d) {m t : Model} (h : Sound c m) (k : Sound d
   value-same (reg.Priority n) other = bytes-same n
   value-same (reg.System r) other = system-same r (λ e. other (ap reg.System e))
   value-same (reg.Guard r) other = ap (λ (x : Core). readMpu r (x .guard)) (a .core)
+  value-same (reg.Constant x) other = refl
 
   after-alike : (r : Register) → Alike (afterRead r m) (afterRead r t)
   unfolding afterRead
@@ -309,6 +313,7 @@ module _ {c d : Chip} (g : Grown c d) {m t : Model} (h : Sound c m) (k : Sound d
   after-alike (reg.Priority n) = a
   after-alike (reg.System r) = a
   after-alike (reg.Guard r) = a
+  after-alike (reg.Constant x) = a
 
   -- ---- what is written
 
@@ -334,7 +339,7 @@ module _ {c d : Chip} (g : Grown c d) {m t : Model} (h : Sound c m) (k : Sound d
   bank-alike Active n v f = a
 
   has-byte : (n : ℕ) → n < flagCount c → hasByte c n ≡ hasByte d n
-  has-byte n l = let e = g .lines in rw (lt-ltb n (16 + c .lines) l, lt-ltb n (16 + d .lines) (omega arith))
+  has-byte n l = let e = g .lines in rw (g .profiles .0, g .profiles .1, lt-ltb n (16 + c .lines) l, lt-ltb n (16 + d .lines) (omega arith))
 
   byte-held : (n b : ℕ) (l r : List ℕ) → n < flagCount c → Held 0 (flagCount c) (flagCount d) l r → Held 0 (flagCount c) (flagCount d) (withByte c n b l) (withByte d n b r)
   unfolding withByte
@@ -415,6 +420,7 @@ module _ {c d : Chip} (g : Grown c d) {m t : Model} (h : Sound c m) (k : Sound d
         named : r ≡ Swtrig → field 8 0 v < c .lines
         named q = names-own c x v own (at Swtrig q)
     word-alike v own e f (reg.Guard r) p = put-core a (λ y. putGuard (writeMpu r v (y .guard)) y)
+    word-alike v own e f (reg.Constant y) p = a
 
     byte-alike : (v : ℕ) (r : Register) → Placed c w x r → Alike (byteWritten c r (x % 4) v m) (byteWritten d r (x % 4) v t)
     unfolding byteWritten Placed
@@ -424,18 +430,30 @@ module _ {c d : Chip} (g : Grown c d) {m t : Model} (h : Sound c m) (k : Sound d
     byte-alike v (reg.Flags b n) p = a
     byte-alike v (reg.System r) p = a
     byte-alike v (reg.Guard r) p = a
+    byte-alike v (reg.Constant y) p = a
 
-    refusal-same : (f : Core → Bool) → accessRefusal (registerOf c x) (f (m .core)) w x ≡ accessRefusal (registerOf d x) (f (t .core)) w x
+    width-same : (r : Register) (allowed : Bool) → accessRefusal c r allowed w x ≡ accessRefusal d r allowed w x
+    unfolding accessRefusal widthRefusal
+    width-same reg.Missing allowed = refl
+    width-same (reg.Timer r) allowed = refl
+    width-same (reg.Flags b n) allowed = refl
+    width-same (reg.Priority n) allowed = rw (g .profiles .0, g .profiles .1)
+    width-same (reg.System r) allowed = refl
+    width-same (reg.Guard r) allowed = refl
+    width-same (reg.Constant y) allowed = refl
+
+    refusal-same : (f : Core → Bool) → accessRefusal c (registerOf c x) (f (m .core)) w x ≡ accessRefusal d (registerOf d x) (f (t .core)) w x
     refusal-same f =
-        ap (λ (r : Register). accessRefusal r (f (m .core)) w x) (register-same g o)
-        ∙ ap (λ (y : Core). accessRefusal (registerOf d x) (f y) w x) (a .core)
+        width-same (registerOf c x) (f (m .core))
+        ∙ ap (λ (r : Register). accessRefusal d r (f (m .core)) w x) (register-same g o)
+        ∙ ap (λ (y : Core). accessRefusal d (registerOf d x) (f y) w x) (a .core)
 
     -- an accepted access is a word at the address of its register
-    not-ictype : (allowed : Bool) → T (eqb (accessRefusal (registerOf c x) allowed w x) 0) → registerOf c x ≢ reg.System Ictype
+    not-ictype : (allowed : Bool) → T (eqb (accessRefusal c (registerOf c x) allowed w x) 0) → registerOf c x ≢ reg.System Ictype
     unfolding Placed
     not-ictype allowed u e =
-        let p = accepted (reg.System Ictype) allowed w x (subst (λ r. T (eqb (accessRefusal r allowed w x) 0)) e u) in
-        let z = subst (λ (i : ℕ). x % i ≡ 0) (word-only Ictype w (p .1)) (p .0) in
+        let p = accepted c (reg.System Ictype) allowed w x (subst (λ r. T (eqb (accessRefusal c r allowed w x) 0)) e u) in
+        let z = subst (λ (i : ℕ). x % i ≡ 0) (word-only c Ictype w (p .1)) (p .0) in
         let y : aligned x ≡ 0xE000E004 = subst (Placed c w x) e (register-placed g o) in
         let b = o .ictype (omega arith) in
         omega arith
@@ -444,7 +462,7 @@ module _ {c d : Chip} (g : Grown c d) {m t : Model} (h : Sound c m) (k : Sound d
     unfolding readCall
     read-meets =
         let e = refusal-same privileged in
-        both-ways Meets (eqb (accessRefusal (registerOf c x) (privileged (m .core)) w x) 0) (eqb (accessRefusal (registerOf d x) (privileged (t .core)) w x) 0) (ap (λ (n : ℕ). eqb n 0) e)
+        both-ways Meets (eqb (accessRefusal c (registerOf c x) (privileged (m .core)) w x) 0) (eqb (accessRefusal d (registerOf d x) (privileged (t .core)) w x) 0) (ap (λ (n : ℕ). eqb n 0) e)
         (λ f. meets-done
         (ap (laneOf w x) (value-same (registerOf c x) (not-ictype (privileged (m .core)) f) ∙ ap (λ (r : Register). valueOf d r t) (register-same g o)))
         (subst (λ (r : Register). Alike (afterRead (registerOf c x) m) (afterRead r t)) (register-same g o) (after-alike (registerOf c x))))
@@ -463,6 +481,6 @@ module _ {c d : Chip} (g : Grown c d) {m t : Model} (h : Sound c m) (k : Sound d
     write-meets v own =
         let may : Core → Bool = λ y. privileged y || freeWrite y w x in
         let e = refusal-same may in
-        both-ways Meets (eqb (accessRefusal (registerOf c x) (may (m .core)) w x) 0) (eqb (accessRefusal (registerOf d x) (may (t .core)) w x) 0) (ap (λ (n : ℕ). eqb n 0) e)
-        (λ f. meets-done refl (written-alike v own (accepted (registerOf c x) (may (m .core)) w x f .0)))
+        both-ways Meets (eqb (accessRefusal c (registerOf c x) (may (m .core)) w x) 0) (eqb (accessRefusal d (registerOf d x) (may (t .core)) w x) 0) (ap (λ (n : ℕ). eqb n 0) e)
+        (λ f. meets-done refl (written-alike v own (accepted c (registerOf c x) (may (m .core)) w x f .0)))
         (λ _. meets-refuse e a)

@@ -3,7 +3,7 @@
 use Prim.Native.Nat.{ℕ, _+_, _-_, _*_, _/_, _≤_}
 use mathlib.Core.Path.{_≡_, refl}
 use mathlib.Core.List.{List, [], _∷_}
-use mathlib.Core.Bool.{Bool, true, not, _&&_}
+use mathlib.Core.Bool.{Bool, true, false, not, _&&_}
 use lib.Dec.{T, ltb, leb, eqb}
 use Rattle.bools.specs.Tests.{implies}
 use Rattle.bits.specs.Words.{field}
@@ -11,9 +11,9 @@ use Rattle.script.specs.declared.Event.{Event}
 use Rattle.script.specs.declared.Event.the-variants as event
 use Rattle.script.specs.Script.{scriptOf}
 use Rattle.rules.specs.declared.Chip.{Chip}
-use Rattle.rules.specs.Chip.{chip55, chip240, fits}
+use Rattle.rules.specs.Chip.{chip55, chip240, isArmv6m, fits}
 use Rattle.rules.specs.Model.{fresh}
-use Rattle.rules.specs.Map.{flagWords, byteWords}
+use Rattle.rules.specs.Blocks.{flagWords, byteWords}
 use Rattle.rules.specs.Step.{answersOf}
 use Rattle.text.specs.Text.{textOf}
 use Rattle.old_scripts.specs.Alike.{Agreeing}
@@ -114,11 +114,13 @@ areOld c d (e ∷ es) = isOld c d e && areOld c d es
 
 -- ---- the claim
 
--- d has the lines of c, keeps the same bits of a priority byte, 3 to 8 of them, and has the same guard
+-- d has the lines of c, keeps the same bits of a priority byte, 3 to 8 of them, and has the same guard; both are ARMv7-M (the Cortex-M0 of E10 has
+-- one word in each bank: nothing grows there)
 pub record Grown (c d : Chip) : Type 0 where
   pub lines : c .lines ≤ d .lines
   pub bits : c .bits ≡ d .bits
   pub guard : c .guard ≡ d .guard
+  pub profiles : (isArmv6m c ≡ false) × (isArmv6m d ≡ false)
   pub fit : T (fits c)
 
 pub record OldScripts (c d : Chip) : Type 0 where

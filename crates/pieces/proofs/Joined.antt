@@ -18,14 +18,14 @@ use Rattle.pieces.specs.Pieces.{scriptAt, started, Usable, restText, res
 use Rattle.pieces.specs.Joined.{Resumed, stop, call, joined, Roomy, Joined}
 use Rattle.pieces.proofs.Headway.{lastOf, Moves, Onward, onward, ended-stays, headway}
 
-pub started-usable : (c : Chip) → Usable c (fresh c) started
+pub started-usable : (c : Chip) → Usable c (fresh c) (started c)
 started-usable c = record { sound = sound-fresh c; counted = omega arith }
 
-pub started-rest : (c : Chip) (script : List ℕ) → restOf c script (fresh c) started ≡ textOf c script
+pub started-rest : (c : Chip) (script : List ℕ) → restOf c script (fresh c) (started c) ≡ textOf c script
 unfolding textOf restOf restText admittedText scriptAt scriptOf
 started-rest c script = refl
 
-started-last : (c : Chip) (script : List ℕ) → lastOf c script (started .ended) (fresh c) (started .at) ≡ runOf c (fresh c) (scriptOf script .events)
+started-last : (c : Chip) (script : List ℕ) → lastOf c script (started c .ended) (fresh c) (started c .at) ≡ runOf c (fresh c) (scriptOf script .events)
 unfolding lastOf scriptAt scriptOf
 started-last c script = refl
 
@@ -75,5 +75,5 @@ pieces-joined c script small = record {
   ends = λ m p outs pieces t r k w h. calls-end small k w h;
 }
   where
-    all : {t : Model} {r : Course} {outs pieces : List (List ℕ)} → Resumed c script (fresh c) started outs pieces t r → Onward c script (fresh c) started t r (joined pieces)
+    all : {t : Model} {r : Course} {outs pieces : List (List ℕ)} → Resumed c script (fresh c) (started c) outs pieces t r → Onward c script (fresh c) (started c) t r (joined pieces)
     all k = calls-onward small k (started-usable c)

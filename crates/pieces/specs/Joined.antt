@@ -30,9 +30,9 @@ Roomy (x ∷ xs) = (lineRoom ≤ length x) × Roomy xs
 
 pub record Joined (c : Chip) (script : List ℕ) : Type 0 where
   -- at any point what is written, followed by what is left to write, is the text
-  pub prefix : (outs pieces : List (List ℕ)) (t : Model) (r : Course) → Resumed c script (fresh c) started outs pieces t r → joined pieces ++ restOf c script t r ≡ textOf c script
+  pub prefix : (outs pieces : List (List ℕ)) (t : Model) (r : Course) → Resumed c script (fresh c) (started c) outs pieces t r → joined pieces ++ restOf c script t r ≡ textOf c script
   -- when the last call has ended the pieces are the text, and the state is the one that the rules give for the script's events
-  pub whole : (outs pieces : List (List ℕ)) (t : Model) (r : Course) → Resumed c script (fresh c) started outs pieces t r → r .ended ≡ true → joined pieces ≡ textOf c script
-  pub left : (outs pieces : List (List ℕ)) (t : Model) (r : Course) → Resumed c script (fresh c) started outs pieces t r → r .ended ≡ true → t ≡ runOf c (fresh c) (scriptOf script .events)
+  pub whole : (outs pieces : List (List ℕ)) (t : Model) (r : Course) → Resumed c script (fresh c) (started c) outs pieces t r → r .ended ≡ true → joined pieces ≡ textOf c script
+  pub left : (outs pieces : List (List ℕ)) (t : Model) (r : Course) → Resumed c script (fresh c) (started c) outs pieces t r → r .ended ≡ true → t ≡ runOf c (fresh c) (scriptOf script .events)
   -- the calls end, from any course and on any state: where each has room for a line, one more than the script has bytes are enough
   pub ends : (m : Model) (p : Course) (outs pieces : List (List ℕ)) (t : Model) (r : Course) → Resumed c script m p outs pieces t r → Roomy outs → length script < length outs → r .ended ≡ true

@@ -25,8 +25,8 @@ scriptAt bytes at =
     cond (ltb 65536 (length bytes)) (record { events = []; end = brokenBy 15 65536 }) (scriptFrom bytes at (length bytes))
 
 -- before the first event
-abbrev pub started : Course
-started = record { core = freshCore; at = 0; events = 0; wrote = 0; ended = false; refusal = 0 }
+abbrev pub started : Chip → Course
+started c = record { core = freshCore c; at = 0; events = 0; wrote = 0; ended = false; refusal = 0 }
 
 -- A course that a script can have: a sound state, and every event took a byte or more.
 unfoldable pub isUsable : Chip → Model → Course → Bool

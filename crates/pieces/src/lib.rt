@@ -9,6 +9,7 @@ ghost use Rattle.rules.specs.Model.{fresh};
 ghost use Rattle.text.specs.Text.{textOf};
 ghost use Rattle.pieces.specs.Pieces.{started, Usable, restOf};
 ghost use Rattle.pieces.specs.Steps.{unmoved, refused, going, finished, Unrun, Told, Stuck, Closed};
+use rules::Chip;
 use rules::Core;
 use rules::Outcome;
 
@@ -36,13 +37,13 @@ pub const LONGEST: usize = 65536;
 pub const LINE_ROOM: usize = 56;
 
 // Before the first event of any script.
-pub fn start() -> Course
-    ensures { λ r. ⌜ r ≡ started ⌝ }
-    ensures usable { λ r. ⌜ ((chip : Chip) → Usable chip (fresh chip) r) ⌝ }
-    ensures text { λ r. ⌜ ((chip : Chip) (script : List ℕ) → restOf chip script (fresh chip) r ≡ textOf chip script) ⌝ }
+pub fn start(chip: Chip) -> Course
+    ensures { λ r. ⌜ r ≡ started chip ⌝ }
+    ensures usable { λ r. ⌜ Usable chip (fresh chip) r ⌝ }
+    ensures text { λ r. ⌜ ((script : List ℕ) → restOf chip script (fresh chip) r ≡ textOf chip script) ⌝ }
 {
     Course {
-        core: parts::fresh_core(),
+        core: parts::fresh_core(chip),
         at: 0,
         events: 0,
         wrote: 0,

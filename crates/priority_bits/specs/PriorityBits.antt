@@ -11,7 +11,7 @@ use Rattle.priority.specs.Levels.{levels}
 use Rattle.priority.specs.Counting.{Count, IsGroup}
 use Rattle.script.specs.declared.Event.{Event}
 use Rattle.rules.specs.declared.Chip.{Chip}
-use Rattle.rules.specs.Chip.{chip55, chip240, withBits, fits}
+use Rattle.rules.specs.Chip.{chip55, chip240, withBits, isArmv6m, fits}
 use Rattle.rules.specs.Model.{Model, Answer, refuse, fresh}
 use Rattle.rules.specs.Step.{stepOf}
 use Rattle.rules.specs.Table.{Holds, starred, further, added}
@@ -43,8 +43,8 @@ pub record PriorityBits : Type 0 where
   pub old-cases : Holds starred × Holds further × Holds added
   -- cases at other w
   pub new-cases : Holds cases
-  -- "Let a chip keep the top w bits, w from 3 to 8": these fit, and no others
-  pub fitting : (c : Chip) (w : ℕ) → (fits (withBits w c) ≡ true) ↔ ((3 ≤ w) × (w ≤ 8))
+  -- "Let a chip keep the top w bits, w from 3 to 8": these fit, and no others, but for the profile that fixes them (E10)
+  pub fitting : (c : Chip) (w : ℕ) → isArmv6m c ≡ false → (fits (withBits w c) ≡ true) ↔ ((3 ≤ w) × (w ≤ 8))
   -- "17, a chip setup with w outside 3 to 8, checked before all others, 15 and 16 too": by every event on every state, and of every script
   pub refused : (c : Chip) → fits c ≡ false → (m : Model) (e : Event) → stepOf c m e ≡ refuse 17 m
   pub text : (c : Chip) → fits c ≡ false → (bytes : List ℕ) → textOf c bytes ≡ brokenText 17 0

@@ -4,8 +4,9 @@ ghost use Rattle.rules.specs.Model.{Model, down, top, withPending, withActive, 
 ghost use Rattle.rules.specs.Lent.{answer};
 ghost use Prim.Native.Nat.{_-_, _/_, _<_};
 ghost use Rattle.rules.specs.declared.Register.the-variants.{Timer};
-ghost use Rattle.rules.specs.Reads.{bankValue, intctrlValue, systemValue, valueOf, afterRead};
+ghost use Rattle.rules.specs.Reads.{bankValue, showsBase, intctrlValue, systemValue, valueOf, afterRead};
 ghost use Rattle.rules.specs.Registers.{readCall};
+use bools::both;
 use parts::accepted;
 use parts::is_privileged;
 use parts::refused;
@@ -39,10 +40,11 @@ fn ictype_value(chip: Chip) -> u32
     (chip.lines - 1) / 32
 }
 
-fn intctrl_value(pending: &[bool], nest: &[u8], depth: usize) -> u32
-    ensures { λ r. ⌜ r ≡ intctrlValue (now (pending .entry)) depth (top (down (now (nest .entry)) depth)) ⌝ }
+fn intctrl_value(chip: Chip, pending: &[bool], nest: &[u8], depth: usize) -> u32
+    ensures { λ r. ⌜ r ≡ intctrlValue (now (pending .entry)) (showsBase chip depth) (top (down (now (nest .entry)) depth)) ⌝ }
 {
-    control::intctrl_value(pending, depth, nvic::nest::top_of(nest, depth))
+    let base = both(!chip.is_armv6m(), depth < 2);
+    control::intctrl_value(pending, base, nvic::nest::top_of(nest, depth))
 }
 
 fn system_value(
@@ -61,7 +63,7 @@ fn system_value(
     match register {
         SystemRegister::Ictype => ictype_value(chip),
         SystemRegister::Cpuid => 0x412fc230,
-        SystemRegister::Intctrl => intctrl_value(pending, nest, core.depth),
+        SystemRegister::Intctrl => intctrl_value(chip, pending, nest, core.depth),
         SystemRegister::Vtable => system.vtable,
         SystemRegister::Apint => 0xfa050000 + core.group * 256,
         SystemRegister::Sysctrl => system.sysctrl,
@@ -97,6 +99,7 @@ fn value_of(
         Register::Priority(n) => nvic::bytes::bytes_value(priority, n),
         Register::System(r) => system_value(chip, r, pending, active, enabled, nest, core),
         Register::Guard(r) => guard.read(r),
+        Register::Constant(x) => x,
     }
 }
 
@@ -120,6 +123,7 @@ fn after_read(core: Core, register: Register) -> Core
         Register::Priority(_) => core,
         Register::System(_) => core,
         Register::Guard(_) => core,
+        Register::Constant(_) => core,
     }
 }
 
@@ -137,8 +141,8 @@ pub fn read(
     requires { ⌜ core .group < 8 ⌝ }
     ensures { λ r. ⌜ ((m : Model) → answer r (withNest (now (nest .entry)) (withPriority (now (priority .entry)) (withEnabled (now (enabled .entry)) (withActive (now (active .entry)) (withPending (now (pending .entry)) m))))) ≡ readCall chip (withCore core (withNest (now (nest .entry)) (withPriority (now (priority .entry)) (withEnabled (now (enabled .entry)) (withActive (now (active .entry)) (withPending (now (pending .entry)) m)))))) width address) ⌝ }
 {
-    let register = map::register_at(chip, address - address % 4);
-    let refusal = map::checks::access_refusal(register, is_privileged(core), width, address);
+    let register = map::register_of(chip, address);
+    let refusal = map::checks::access_refusal(chip, register, is_privileged(core), width, address);
     if refusal == 0 {
         let word = value_of(
             chip,

@@ -1,4 +1,4 @@
--- Document 01, "Access verdicts", as a call; the verdict is that of the chip's guard (document 02, E12).
+-- Document 01, "Access verdicts", as a call; the verdict is that of the chip's guard (document 02, E12), where it has one (E10).
 use Prim.Native.Nat.{ℕ, _%_}
 use mathlib.Core.Bool.{Bool, not, cond}
 use lib.Dec.{ltb, eqb}
@@ -8,6 +8,7 @@ use Rattle.verdicts.specs.declared.Access.{Access}
 use Rattle.verdicts.specs.declared.Access.the-variants as access
 use Rattle.editions.specs.Editions.{guardVerdict}
 use Rattle.rules.specs.declared.Chip.{Chip}
+use Rattle.rules.specs.Chip.{isArmv6m}
 use Rattle.rules.specs.Model.{Model, Answer, refuse, done}
 use Rattle.rules.specs.Priorities.{execution, isNegative, privileged}
 use Rattle.rules.specs.Registers.{isWidth}
@@ -28,5 +29,9 @@ accessAt edition e m k w a =
     (cond (not (eqb (a % w) 0)) (refuse 2 m)
     (done (guardVerdict edition (m .core .guard) (purposeOf k) a (privileged (m .core)) (isNegative e)) m)))
 
+-- Document 02, E10: "access events are refused by 19, before all others but 16"
+unfoldable pub accessBy : Chip → ℤ → Model → ℕ → ℕ → ℕ → Answer
+accessBy c e m k w a = cond (isArmv6m c) (refuse 19 m) (accessAt (c .guard) e m k w a)
+
 abbrev pub accessCall : Chip → Model → ℕ → ℕ → ℕ → Answer
-accessCall c m k w a = accessAt (c .guard) (execution m) m k w a
+accessCall c m k w a = accessBy c (execution m) m k w a

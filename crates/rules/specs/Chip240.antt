@@ -14,7 +14,8 @@ use Rattle.rules.specs.declared.Part.the-variants.{Lines55, Lines240}
 use Rattle.rules.specs.Chip.{chip55, chip240, chipOf, flagCount, exceptionCount, isLine}
 use Rattle.rules.specs.Model.{Model, refuse}
 use Rattle.rules.specs.SystemBlock.{keptVtable}
-use Rattle.rules.specs.Map.{flagWords, blockRegister, registerAt}
+use Rattle.rules.specs.Blocks.{flagWords}
+use Rattle.rules.specs.Map.{blockRegister, registerAt}
 use Rattle.rules.specs.Reads.{intctrlValue, systemValue}
 use Rattle.rules.specs.Writes.{swtrigWritten}
 use Rattle.rules.specs.Events.{lineCall}
@@ -63,9 +64,9 @@ unfolding systemValue
 ictype m = (refl, refl)
 
 -- "INTCTRL shows eight bits of the nest's top": an exception's number is below 256, and is what bits 7:0 show
-intctrl : (pending : List Bool) (depth topmost : ℕ) → topmost < 256 → field 7 0 (intctrlValue pending depth topmost) ≡ topmost
+intctrl : (pending : List Bool) (base : Bool) (topmost : ℕ) → topmost < 256 → field 7 0 (intctrlValue pending base topmost) ≡ topmost
 unfolding intctrlValue
-intctrl pending depth topmost h = omega arith
+intctrl pending base topmost h = omega arith
 
 -- "VTABLE keeps bits 29:10"
 vtable : (keptVtable chip240 0xFFFFFFFF ≡ 0x3FFFFC00) × (keptVtable chip55 0xFFFFFFFF ≡ 0x3FFFFE00)

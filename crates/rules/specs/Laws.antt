@@ -1,11 +1,11 @@
 -- Laws of these definitions that the code of every chip and the third demand both use.
-use Prim.Native.Nat.{ℕ, _≤_, _<_}
+use Prim.Native.Nat.{ℕ, _+_, _≤_, _<_}
 use mathlib.Core.Path.{_≡_, refl, sym, subst}
 use mathlib.Core.Logic.{_⊎_, inl, inr}
 use mathlib.Core.List.{List, [], _∷_, List·Memᴰ, List·Memᴰ·head, List·Memᴰ·tail, List·Memᴰ·not-nil, List·Memᴰ·cases-cons}
 use mathlib.Core.Bool.{Bool, true, false, _&&_, _||_}
 use native.Mathlib.Omega.{arith}
-use lib.ListN.{getD}
+use lib.ListN.{length, getD}
 use lib.Dec.{T, ltb, leb, eqb, ltb→lt, lt→ltb, le→leb, eqb→eq, eqb-refl}
 use Rattle.bits.specs.Words.{kept}
 use Rattle.bits.specs.WordLaws.{kept-lt}
@@ -14,7 +14,7 @@ use Rattle.bools.specs.Every.{every, every-of}
 use Rattle.rules.specs.declared.Chip.{Chip}
 use Rattle.rules.specs.declared.Place.{Place}
 use Rattle.rules.specs.declared.Place.the-variants.{Exception, Enable, Line}
-use Rattle.rules.specs.Chip.{isIn, flagCount, systemExceptions, isLine, stands}
+use Rattle.rules.specs.Chip.{isArmv6m, isIn, flagCount, exceptionCount, configurable, systemExceptions, isLine, stands}
 use Rattle.rules.specs.SystemBlock.{keptVtable}
 use Rattle.rules.specs.Sound.{countSound}
 use Rattle.rules.specs.Nesting.{linkFits}
@@ -59,9 +59,15 @@ is-line c n l h = join (leb 16 n) (ltb n (flagCount c)) (le→leb 16 n l) (lt→
 
 -- a flag of any kind may stand at a line
 pub line-stands : (c : Chip) (n : ℕ) (place : Place) → T (isLine c n) → T (stands c place n)
-line-stands c n Exception t = or-right (isIn n systemExceptions) (isLine c n) t
-line-stands c n Enable t = or-right (isIn n (4 ∷ 5 ∷ 6 ∷ [])) (isLine c n) t
+line-stands c n Exception t = or-right (isIn n (systemExceptions c)) (isLine c n) t
+line-stands c n Enable t = or-right (isIn n (configurable c)) (isLine c n) t
 line-stands c n Line t = t
+
+-- ---- how many exceptions there are
+
+pub few-exist : (c : Chip) → exceptionCount c ≤ 8 + c .lines
+few-exist c =
+    by-cases (λ (xs : List ℕ). length (2 ∷ 3 ∷ 11 ∷ 14 ∷ 15 ∷ xs) + c .lines ≤ 8 + c .lines) (isArmv6m c) (λ _. omega arith) (λ _. omega arith)
 
 -- ---- counts
 

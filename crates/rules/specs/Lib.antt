@@ -5,6 +5,8 @@ pub mod SystemBlock
 pub mod Sound
 pub mod Events
 pub mod Nesting
+pub mod Blocks
+pub mod MapArmv6m
 pub mod Map
 pub mod Reads
 pub mod Writes
@@ -18,3 +20,4 @@ pub mod LineLaws
 pub mod SkipLaws
 pub mod Chip240
 pub mod PriorityBits
+pub mod CortexM0

@@ -13,11 +13,15 @@ use Rattle.flag_words.specs.Flags.{on, flagsWord, putFlags}
 use Rattle.flag_words.specs.FlagLaws.{word-bit, put-before, put-past, put-at}
 use Rattle.bools.specs.Tests.{not-and-not, by-cases, set-by, clear-by}
 use Rattle.rules.specs.declared.Bank.the-variants.{EnableSet, EnableClear, PendingSet, PendingClear}
+use Rattle.rules.specs.declared.Register.{Register}
 use Rattle.rules.specs.declared.Register.the-variants.{Flags}
 use Rattle.rules.specs.declared.Chip.{Chip}
+use Rattle.rules.specs.Chip.{isArmv6m}
 use Rattle.rules.specs.Model.{Model, Answer, withPending, withEnabled, withLevel, withLost}
 use Rattle.rules.specs.Events.{levelled, losesRise, counted, lineCall}
-use Rattle.rules.specs.Map.{flagWords, blockRegister, registerAt, registerOf}
+use Rattle.rules.specs.Blocks.{flagWords, bankRegister}
+use Rattle.rules.specs.MapArmv6m.{armv6mBlock, armv6mRegister}
+use Rattle.rules.specs.Map.{blockRegister, registerAt, registerOf}
 use Rattle.rules.specs.Writes.{clearable, bankWritten, wordWritten}
 use Rattle.rules.specs.Registers.{written}
 
@@ -39,9 +43,9 @@ put-changed value k flags w new e =
 
 -- ---- their registers
 
--- no other register stands between E100 and E400
-in-blocks : (c : Chip) (a : ℕ) → a % 4 ≡ 0 → 0xE000E100 ≤ a → a < 0xE000E400 → registerOf c a ≡ blockRegister c a
-unfolding registerAt
+-- no other register stands between E100 and E400, on either map
+in-blocks : (c : Chip) (a : ℕ) → a % 4 ≡ 0 → 0xE000E100 ≤ a → a < 0xE000E400 → registerOf c a ≡ cond (isArmv6m c) (armv6mBlock c a) (blockRegister c a)
+unfolding registerAt armv6mRegister
 in-blocks c a aligned from upto =
     let e : a - a % 4 ≡ a = omega arith in
     simp (
@@ -67,46 +71,48 @@ in-blocks c a aligned from upto =
       ne-eqb a 0xE000EF00 (λ q. omega arith),
     )
 
+-- so what the banks have there is what the chip has
+in-banks : (c : Chip) (a : ℕ) (r : Register) → a % 4 ≡ 0 → 0xE000E100 ≤ a → a < 0xE000E400 → ((otherwise : Register) → bankRegister c a otherwise ≡ r) → registerOf c a ≡ r
+unfolding blockRegister armv6mBlock
+in-banks c a r aligned from upto f =
+    in-blocks c a aligned from upto ∙ by-cases (λ x. x ≡ r) (isArmv6m c) (λ _. f _) (λ _. f _)
+
 -- The word of the lines 32 k to 32 k + 31, on a chip whose blocks are no longer than 1024 lines: there they do not overlap.
 module _ (c : Chip) (few : c .lines ≤ 1024) (k : ℕ) (there : k < flagWords c) where
   pub enable-set-at : registerOf c (0xE000E100 + 4 * k) ≡ Flags EnableSet (16 + 32 * k)
-  unfolding blockRegister
   enable-set-at =
-      in-blocks c (0xE000E100 + 4 * k) (omega arith) (omega arith) (omega arith)
-      ∙ simp (
+      in-banks c (0xE000E100 + 4 * k) _ (omega arith) (omega arith) (omega arith)
+      (λ otherwise. simp (
         le-leb 0xE000E100 (0xE000E100 + 4 * k) (omega arith),
         lt-ltb (0xE000E100 + 4 * k) (0xE000E100 + 4 * flagWords c) (omega arith),
-      ) (ap (Flags EnableSet) (omega arith))
+      ) (ap (Flags EnableSet) (omega arith)))
 
   pub enable-clear-at : registerOf c (0xE000E180 + 4 * k) ≡ Flags EnableClear (16 + 32 * k)
-  unfolding blockRegister
   enable-clear-at =
-      in-blocks c (0xE000E180 + 4 * k) (omega arith) (omega arith) (omega arith)
-      ∙ simp (
+      in-banks c (0xE000E180 + 4 * k) _ (omega arith) (omega arith) (omega arith)
+      (λ otherwise. simp (
         le-leb 0xE000E100 (0xE000E180 + 4 * k) (omega arith),
         le-ltb (0xE000E180 + 4 * k) (0xE000E100 + 4 * flagWords c) (omega arith),
         le-leb 0xE000E180 (0xE000E180 + 4 * k) (omega arith),
         lt-ltb (0xE000E180 + 4 * k) (0xE000E180 + 4 * flagWords c) (omega arith),
-      ) (ap (Flags EnableClear) (omega arith))
+      ) (ap (Flags EnableClear) (omega arith)))
 
   pub pending-set-at : registerOf c (0xE000E200 + 4 * k) ≡ Flags PendingSet (16 + 32 * k)
-  unfolding blockRegister
   pending-set-at =
-      in-blocks c (0xE000E200 + 4 * k) (omega arith) (omega arith) (omega arith)
-      ∙ simp (
+      in-banks c (0xE000E200 + 4 * k) _ (omega arith) (omega arith) (omega arith)
+      (λ otherwise. simp (
         le-leb 0xE000E100 (0xE000E200 + 4 * k) (omega arith),
         le-ltb (0xE000E200 + 4 * k) (0xE000E100 + 4 * flagWords c) (omega arith),
         le-leb 0xE000E180 (0xE000E200 + 4 * k) (omega arith),
         le-ltb (0xE000E200 + 4 * k) (0xE000E180 + 4 * flagWords c) (omega arith),
         le-leb 0xE000E200 (0xE000E200 + 4 * k) (omega arith),
         lt-ltb (0xE000E200 + 4 * k) (0xE000E200 + 4 * flagWords c) (omega arith),
-      ) (ap (Flags PendingSet) (omega arith))
+      ) (ap (Flags PendingSet) (omega arith)))
 
   pub pending-clear-at : registerOf c (0xE000E280 + 4 * k) ≡ Flags PendingClear (16 + 32 * k)
-  unfolding blockRegister
   pending-clear-at =
-      in-blocks c (0xE000E280 + 4 * k) (omega arith) (omega arith) (omega arith)
-      ∙ simp (
+      in-banks c (0xE000E280 + 4 * k) _ (omega arith) (omega arith) (omega arith)
+      (λ otherwise. simp (
         le-leb 0xE000E100 (0xE000E280 + 4 * k) (omega arith),
         le-ltb (0xE000E280 + 4 * k) (0xE000E100 + 4 * flagWords c) (omega arith),
         le-leb 0xE000E180 (0xE000E280 + 4 * k) (omega arith),
@@ -115,7 +121,7 @@ module _ (c : Chip) (few : c .lines ≤ 1024) (k : ℕ) (there : k < flagWords c
         le-ltb (0xE000E280 + 4 * k) (0xE000E200 + 4 * flagWords c) (omega arith),
         le-leb 0xE000E280 (0xE000E280 + 4 * k) (omega arith),
         lt-ltb (0xE000E280 + 4 * k) (0xE000E280 + 4 * flagWords c) (omega arith),
-      ) (ap (Flags PendingClear) (omega arith))
+      ) (ap (Flags PendingClear) (omega arith)))
 
   -- ---- the model that an accepted write of the word v leaves
 

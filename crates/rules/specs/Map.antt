@@ -1,31 +1,19 @@
--- Document 01, "Registers": the register at an address. The table there is the whole map.
-use Prim.Native.Nat.{ℕ, _+_, _-_, _*_, _/_, _%_}
-use mathlib.Core.Bool.{Bool, cond, _&&_}
-use lib.Dec.{ltb, leb, eqb}
+-- Document 01, "Registers": the register at an address. The table there is the whole map of ARMv7-M; `MapArmv6m` has the other.
+use Prim.Native.Nat.{ℕ, _+_, _-_, _%_}
+use mathlib.Core.Bool.{cond, _&&_, _||_}
+use lib.Dec.{eqb}
 use Rattle.mpu.specs.declared.MpuRegister.{MpuRegister}
 use Rattle.mpu.specs.declared.MpuRegister.the-variants as mpu
 use Rattle.mpu.specs.Editions.{guardRegisterAt}
 use Rattle.rules.specs.declared.TimerRegister.the-variants.{Stctrl, Streload, Stcurrent}
-use Rattle.rules.specs.declared.Bank.the-variants.{EnableSet, EnableClear, PendingSet, PendingClear, Active}
+use Rattle.rules.specs.declared.Bank.the-variants.{Active}
 use Rattle.rules.specs.declared.SystemRegister.the-variants.{Ictype, Cpuid, Intctrl, Vtable, Apint, Sysctrl, Cfgctrl, Syshndctrl, Faultstat, Hfaultstat, Mmaddr, Faultaddr, Swtrig}
 use Rattle.rules.specs.declared.Register.{Register}
-use Rattle.rules.specs.declared.Register.the-variants.{Missing, Timer, Flags, Priority, System, Guard}
+use Rattle.rules.specs.declared.Register.the-variants.{Missing, Timer, Flags, Priority, System, Guard, Constant}
 use Rattle.rules.specs.declared.Chip.{Chip}
-
--- the words that hold a flag of each line, and a byte of each
-abbrev pub flagWords : Chip → ℕ
-flagWords c = (c .lines + 31) / 32
-
-abbrev pub byteWords : Chip → ℕ
-byteWords c = (c .lines + 3) / 4
-
--- in the block of so many words from an address on
-abbrev pub inBlock : ℕ → ℕ → ℕ → Bool
-inBlock base words a = leb base a && ltb a (base + 4 * words)
-
--- the first exception of a word of flags: 32 lines a word
-abbrev pub firstFlag : ℕ → ℕ → ℕ
-firstFlag base a = 16 + 8 * (a - base)
+use Rattle.rules.specs.Chip.{isArmv6m}
+use Rattle.rules.specs.Blocks.{flagWords, byteWords, inBlock, firstFlag, bankRegister}
+use Rattle.rules.specs.MapArmv6m.{armv6mRegister}
 
 abbrev pub guardRegister : MpuRegister → Register
 guardRegister mpu.Missing = Missing
@@ -43,14 +31,11 @@ guardRegister mpu.Mair1 = Guard mpu.Mair1
 -- MPU, to EDC4 at most (document 02, E12: "the guard's own register map")
 unfoldable pub blockRegister : Chip → ℕ → Register
 blockRegister c a =
-    cond (inBlock 0xE000E100 (flagWords c) a) (Flags EnableSet (firstFlag 0xE000E100 a))
-    (cond (inBlock 0xE000E180 (flagWords c) a) (Flags EnableClear (firstFlag 0xE000E180 a))
-    (cond (inBlock 0xE000E200 (flagWords c) a) (Flags PendingSet (firstFlag 0xE000E200 a))
-    (cond (inBlock 0xE000E280 (flagWords c) a) (Flags PendingClear (firstFlag 0xE000E280 a))
+    bankRegister c a
     (cond (inBlock 0xE000E300 (flagWords c) a) (Flags Active (firstFlag 0xE000E300 a))
     (cond (inBlock 0xE000E400 (byteWords c) a) (Priority (16 + (a - 0xE000E400)))
     (cond (inBlock 0xE000ED90 14 a) (guardRegister (guardRegisterAt (c .guard) (a - 0xE000ED90)))
-    Missing))))))
+    Missing)))
 
 -- The register at the aligned address a. ED18, 1C and 20 hold the bytes of the exceptions 4 to 15.
 unfoldable pub registerAt : Chip → ℕ → Register
@@ -76,15 +61,17 @@ registerAt c a =
     (cond (eqb a 0xE000EF00) (System Swtrig)
     (blockRegister c a)))))))))))))))))))
 
--- the register of the aligned word that holds this address
+-- the register of the aligned word that holds this address, by the profile's map
 abbrev pub registerOf : Chip → ℕ → Register
-registerOf c a = registerAt c (a - a % 4)
+registerOf c a = cond (isArmv6m c) (armv6mRegister c (a - a % 4)) (registerAt c (a - a % 4))
 
--- "All are words; bytes too at E400 to E437 and ED18 to ED23" (document 02, E4: to E4EF): 4 where there is no register, 5 where the width is not allowed, else 0
-unfoldable pub widthRefusal : Register → ℕ → ℕ
-widthRefusal Missing w = 4
-widthRefusal (Timer r) w = cond (eqb w 4) 0 5
-widthRefusal (Flags b n) w = cond (eqb w 4) 0 5
-widthRefusal (Priority n) w = cond (eqb w 2) 5 0
-widthRefusal (System r) w = cond (eqb w 4) 0 5
-widthRefusal (Guard r) w = cond (eqb w 4) 0 5
+-- "All are words; bytes too at E400 to E437 and ED18 to ED23" (document 02, E4: to E4EF): 4 where there is no register, 5 where the width is not allowed, else 0.
+-- E10: "4 for registers it lacks, 5 for single priority bytes"
+unfoldable pub widthRefusal : Chip → Register → ℕ → ℕ
+widthRefusal c Missing w = 4
+widthRefusal c (Timer r) w = cond (eqb w 4) 0 5
+widthRefusal c (Flags b n) w = cond (eqb w 4) 0 5
+widthRefusal c (Priority n) w = cond (eqb w 2 || (isArmv6m c && eqb w 1)) 5 0
+widthRefusal c (System r) w = cond (eqb w 4) 0 5
+widthRefusal c (Guard r) w = cond (eqb w 4) 0 5
+widthRefusal c (Constant x) w = cond (eqb w 4) 0 5

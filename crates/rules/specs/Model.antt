@@ -1,7 +1,7 @@
 -- The state that the rules speak of, over every chip: lists where a chip's state by value has arrays, and the parts that all chips share.
 use Prim.Native.Nat.{ℕ, zero, suc}
 use mathlib.Core.List.{List, [], _∷_}
-use mathlib.Core.Bool.{Bool, false}
+use mathlib.Core.Bool.{Bool, false, cond}
 use lib.ListN.{getD, replicate}
 use Rattle.systick.specs.declared.Timer.{Timer}
 use Rattle.systick.specs.Timer.{freshTimer}
@@ -11,7 +11,7 @@ use Rattle.rules.specs.declared.Masks.{Masks}
 use Rattle.rules.specs.declared.System.{System}
 use Rattle.rules.specs.declared.Core.{Core}
 use Rattle.rules.specs.declared.Chip.{Chip}
-use Rattle.rules.specs.Chip.{flagCount, exceptionCount}
+use Rattle.rules.specs.Chip.{isArmv6m, flagCount, exceptionCount}
 
 -- Flags and priority bytes stand at exception numbers. The nest (document 01's word for the stack of active exceptions) holds
 -- exception numbers, the newest last; its first `depth` places are in use. `lost` stands at line numbers (document 02, E1: "Keep for each line
@@ -50,11 +50,15 @@ top (x ∷ xs) = x
 abbrev pub freshMasks : Masks
 freshMasks = record { primask = false; faultmask = false; basepri = 0; npriv = false; spsel = false }
 
-abbrev pub freshSystem : System
-freshSystem = record { vtable = 0; sysctrl = 0; cfgctrl = 0x200; faultstat = 0; hfaultstat = 0; mmaddr = 0; faultaddr = 0 }
+-- Document 02, E10: ED14 is "always 0x208"
+abbrev pub freshCfgctrl : Chip → ℕ
+freshCfgctrl c = cond (isArmv6m c) 0x208 0x200
 
-abbrev pub freshCore : Core
-freshCore = record { depth = 0; group = 0; masks = freshMasks; timer = freshTimer; guard = freshMpu; system = freshSystem }
+abbrev pub freshSystem : Chip → System
+freshSystem c = record { vtable = 0; sysctrl = 0; cfgctrl = freshCfgctrl c; faultstat = 0; hfaultstat = 0; mmaddr = 0; faultaddr = 0 }
+
+abbrev pub freshCore : Chip → Core
+freshCore c = record { depth = 0; group = 0; masks = freshMasks; timer = freshTimer; guard = freshMpu; system = freshSystem c }
 
 unfoldable pub fresh : Chip → Model
 fresh c =
@@ -66,7 +70,7 @@ fresh c =
       priority = replicate (flagCount c) 0;
       nest = replicate (exceptionCount c) 0;
       lost = replicate (c .lines) 0;
-      core = freshCore;
+      core = freshCore c;
     }
 
 -- ---- a model with one part put anew

@@ -9,14 +9,14 @@ use Rattle.grouping.specs.Grouping.{keptByte}
 use Rattle.script.specs.declared.Event.{Event}
 use Rattle.rules.specs.declared.Chip.{Chip}
 use Rattle.rules.specs.declared.Masks.{Masks}
-use Rattle.rules.specs.Chip.{chip55, chip240, withBits, fits}
+use Rattle.rules.specs.Chip.{chip55, chip240, isArmv6m, withBits, fits}
 use Rattle.rules.specs.Model.{Model, refuse}
 use Rattle.rules.specs.Events.{withBasepri, basepriRaised, specialWritten}
 use Rattle.rules.specs.Step.{admitted, stepOf}
 
--- "w from 3 to 8", on every chip
-pub from-3-to-8 : (c : Chip) (w : ℕ) → 3 ≤ w → w ≤ 8 → T (fits (withBits w c))
-from-3-to-8 c w low high = join (leb 3 w) (leb w 8) (le→leb 3 w low) (le→leb w 8 high)
+-- "w from 3 to 8", on every chip whose profile does not fix it
+pub from-3-to-8 : (c : Chip) (w : ℕ) → isArmv6m c ≡ false → 3 ≤ w → w ≤ 8 → T (fits (withBits w c))
+from-3-to-8 c w free low high = rw free (join (leb 3 w) (leb w 8) (le→leb 3 w low) (le→leb w 8 high))
 
 -- "17, a chip setup with w outside 3 to 8": 2, 9, 0 and 2^32 - 1 are outside, 3 and 8 are not
 edges : map (λ (w : ℕ). fits (withBits w chip55)) (2 ∷ 3 ∷ 8 ∷ 9 ∷ 0 ∷ 0xFFFFFFFF ∷ []) ≡ false ∷ true ∷ true ∷ false ∷ false ∷ false ∷ []

@@ -3,7 +3,7 @@
 use Prim.Native.Nat.{ℕ, _≤_, _<_}
 use mathlib.Core.Path.{_≡_}
 use mathlib.Core.List.{List, [], _∷_, List·Memᴰ}
-use mathlib.Core.Bool.{Bool, true, not, _&&_, _||_}
+use mathlib.Core.Bool.{Bool, true, false, not, _&&_, _||_}
 use lib.ListN.{length, getD}
 use lib.Dec.{T, ltb, leb, eqb}
 use Rattle.bools.specs.Tests.{implies}
@@ -12,14 +12,17 @@ use Rattle.flag_words.specs.Flags.{on}
 use Rattle.priority.specs.Order.{Distinct}
 use Rattle.grouping.specs.Grouping.{keptByte}
 use Rattle.systick.specs.Timer.{soundTimer, SoundTimer}
+use Rattle.mpu.specs.declared.Mpu.{Mpu}
 use Rattle.mpu.specs.Soundness.{soundMpu, SoundMpu}
+use Rattle.mpu.specs.Unused.{isUnused}
 use Rattle.rules.specs.declared.Chip.{Chip}
 use Rattle.rules.specs.declared.Place.{Place}
 use Rattle.rules.specs.declared.Place.the-variants.{Exception, Enable, Line}
+use Rattle.rules.specs.declared.Masks.{Masks}
 use Rattle.rules.specs.declared.System.{System}
 use Rattle.rules.specs.declared.Core.{Core}
 use Rattle.rules.specs.SystemBlock.{keptVtable, keptSysctrl, keptCfgctrl, keptFaultstat, keptHfaultstat}
-use Rattle.rules.specs.Chip.{flagCount, exceptionCount, isIn, hasByte, stands}
+use Rattle.rules.specs.Chip.{isArmv6m, flagCount, exceptionCount, isIn, hasByte, stands}
 use Rattle.rules.specs.Model.{Model, down, stack}
 
 -- ---- the test
@@ -76,6 +79,24 @@ soundSystem c s =
     && eqb (keptFaultstat (s .faultstat)) (s .faultstat)
     && eqb (keptHfaultstat (s .hfaultstat)) (s .hfaultstat)
 
+-- Document 02, E10: what ARMv6-M lacks is 0. "no BASEPRI or FAULTMASK, .. always privileged"
+unfoldable pub bareMasks : Masks → Bool
+bareMasks k = not (k .faultmask) && eqb (k .basepri) 0 && not (k .npriv)
+
+-- "vectors start at 0", "ED14 (always 0x208)", "no fault status or address kept"
+unfoldable pub bareSystem : System → Bool
+bareSystem s =
+    eqb (s .vtable) 0
+    && eqb (s .cfgctrl) 0x208
+    && eqb (s .faultstat) 0
+    && eqb (s .hfaultstat) 0
+    && eqb (s .mmaddr) 0
+    && eqb (s .faultaddr) 0
+
+-- "no grouping", "no MPU"
+unfoldable pub isBare : Core → Bool
+isBare k = eqb (k .group) 0 && bareMasks (k .masks) && isUnused (k .guard) && bareSystem (k .system)
+
 -- every list has its length, as the arrays of a state by value always have
 unfoldable pub isSized : Chip → Model → Bool
 isSized c m =
@@ -99,6 +120,7 @@ isSound c m =
     && soundTimer (m .core .timer)
     && soundMpu (c .guard) (m .core .guard)
     && soundSystem c (m .core .system)
+    && implies (isArmv6m c) (isBare (m .core))
 
 -- ---- the facts, part by part: each names only the fields that it is about
 
@@ -136,6 +158,26 @@ pub record SoundSystem (c : Chip) (s : System) : Type 0 where
   pub faultstat : keptFaultstat (s .faultstat) ≡ s .faultstat
   pub hfaultstat : keptHfaultstat (s .hfaultstat) ≡ s .hfaultstat
 
+-- what ARMv6-M lacks
+pub record BareMasks (k : Masks) : Type 0 where
+  pub faultmask : k .faultmask ≡ false
+  pub basepri : k .basepri ≡ 0
+  pub npriv : k .npriv ≡ false
+
+pub record BareSystem (s : System) : Type 0 where
+  pub vtable : s .vtable ≡ 0
+  pub cfgctrl : s .cfgctrl ≡ 0x208
+  pub faultstat : s .faultstat ≡ 0
+  pub hfaultstat : s .hfaultstat ≡ 0
+  pub mmaddr : s .mmaddr ≡ 0
+  pub faultaddr : s .faultaddr ≡ 0
+
+pub record Bare (p : ℕ) (k : Masks) (g : Mpu) (s : System) : Type 0 where
+  pub group : p ≡ 0
+  pub masks : BareMasks k
+  pub guard : T (isUnused g)
+  pub system : BareSystem s
+
 -- what holds no list; the nest's depth is a matter of its places
 pub record SoundCore (c : Chip) (k : Core) : Type 0 where
   pub group : k .group < 8
@@ -143,6 +185,7 @@ pub record SoundCore (c : Chip) (k : Core) : Type 0 where
   pub timer : SoundTimer (k .timer)
   pub guard : SoundMpu (c .guard) (k .guard)
   pub system : SoundSystem c (k .system)
+  pub bare : T (isArmv6m c) → Bare (k .group) (k .masks) (k .guard) (k .system)
 
 pub record Sound (c : Chip) (m : Model) : Type 0 where
   pub pending : Flags c Exception (m .pending)

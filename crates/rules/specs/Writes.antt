@@ -134,6 +134,7 @@ wordWritten c (reg.Flags b n) v m = bankWritten b n v m
 wordWritten c (reg.Priority n) v m = withPriority (withBytes c n v (m .priority)) m
 wordWritten c (reg.System r) v m = systemWritten c r v m
 wordWritten c (reg.Guard r) v m = withGuard (writeMpu r v (m .core .guard)) m
+wordWritten c (reg.Constant x) v m = m
 
 -- bytes "written from the value's low 8 bits"; only priority bytes are written so
 unfoldable pub byteWritten : Chip → Register → ℕ → ℕ → Model → Model
@@ -143,3 +144,4 @@ byteWritten c (reg.Timer r) lane v m = m
 byteWritten c (reg.Flags b n) lane v m = m
 byteWritten c (reg.System r) lane v m = m
 byteWritten c (reg.Guard r) lane v m = m
+byteWritten c (reg.Constant x) lane v m = m

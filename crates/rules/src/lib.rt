@@ -1,28 +1,37 @@
 // What the rules and the code of every chip share: the chip itself, the parts of the state that hold no array, and the names of the
 // registers.
 ghost use mathlib.Core.Path.{_≡_};
-ghost use Rattle.rules.specs.Chip.{chipOf, fits};
+ghost use Rattle.rules.specs.Chip.{chipOf, isArmv6m, fits};
 use bools::both;
 use mpu::Edition;
 use mpu::Mpu;
 use mpu::MpuRegister;
 use systick::Timer;
 
-// A chip: which guard it has, how many lines, and how many bits of a priority byte it keeps.
+// The architecture of the core: document 01's, or that of the Cortex-M0 (document 02, E10), which has less.
+pub enum Profile {
+    Armv7m,
+    Armv6m,
+}
+
+// A chip: its profile, which guard it has (ARMv6-M has none, whatever stands there), how many lines, and how many bits of a priority byte it keeps.
 pub struct Chip {
+    pub profile: Profile,
     pub guard: Edition,
     pub lines: u32,
     pub bits: u32,
 }
 
-// The chips that there are, by what they have: 55 lines (document 01), 240 lines (document 02, E4).
+// The chips that there are: a Cortex-M3 with 55 lines (document 01) or with 240 (document 02, E4), the Cortex-M0 with 32 (E10).
 pub enum Part {
     Lines55,
     Lines240,
+    CortexM0,
 }
 
 // How a caller names a chip: `chipOf` of the rules. `bits` is how many bits of a priority byte are kept (CMSIS calls it __NVIC_PRIO_BITS): any
-// number may stand there, and outside 3 to 8 every call refuses it by 17. `guard` is the edition of its MPU.
+// number may stand there, and outside 3 to 8 every call refuses it by 17. `guard` is the edition of its MPU. The Cortex-M0 keeps two bits and has no
+// MPU, whatever stands there.
 pub struct Setup {
     pub part: Part,
     pub bits: u32,
@@ -30,10 +39,23 @@ pub struct Setup {
 }
 
 impl Chip {
+    pub fn is_armv6m(self) -> bool
+        ensures { λ r. ⌜ r ≡ isArmv6m self ⌝ }
+    {
+        let profile = self.profile;
+        match profile {
+            Profile::Armv7m => false,
+            Profile::Armv6m => true,
+        }
+    }
+
     // The test of refusal 17.
     pub fn fits(self) -> bool
         ensures { λ r. ⌜ r ≡ fits self ⌝ }
     {
+        if self.is_armv6m() {
+            return self.bits == 2;
+        }
         both(3 <= self.bits, self.bits <= 8)
     }
 }
@@ -47,14 +69,22 @@ impl Setup {
         let guard = self.guard;
         match part {
             Part::Lines55 => Chip {
+                profile: Profile::Armv7m,
+                guard,
                 lines: 55,
                 bits,
-                guard,
             },
             Part::Lines240 => Chip {
+                profile: Profile::Armv7m,
+                guard,
                 lines: 240,
                 bits,
-                guard,
+            },
+            Part::CortexM0 => Chip {
+                profile: Profile::Armv6m,
+                guard: Edition::Pmsav7,
+                lines: 32,
+                bits: 2,
             },
         }
     }
@@ -138,7 +168,8 @@ pub enum SystemRegister {
     Swtrig,
 }
 
-// A register, by the part of the model that it shows. Flags and priority bytes carry the number of the first exception shown.
+// A register, by the part of the model that it shows. Flags and priority bytes carry the number of the first exception shown. A constant reads as
+// its number and ignores writes.
 pub enum Register {
     Missing,
     Timer(TimerRegister),
@@ -146,4 +177,5 @@ pub enum Register {
     Priority(usize),
     System(SystemRegister),
     Guard(MpuRegister),
+    Constant(u32),
 }

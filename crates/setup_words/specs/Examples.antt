@@ -5,9 +5,9 @@ use mathlib.Core.List.{List, [], _∷_}
 use mathlib.Core.Bool.{Bool, true, false}
 use Rattle.mpu.specs.declared.Edition.the-variants.{Pmsav7, Pmsav8}
 use Rattle.rules.specs.declared.Setup.{Setup}
-use Rattle.rules.specs.declared.Part.the-variants.{Lines55, Lines240}
+use Rattle.rules.specs.declared.Part.the-variants.{Lines55, Lines240, CortexM0}
 use Rattle.setup_words.specs.declared.Words.{Words}
-use Rattle.setup_words.specs.Words.{linesWord, number55, number240, bitsWord, guardWord, pmsav7Word, pmsav8Word, isSame, areDigits, isNumber, numberFrom, started, linesBy, bitsBy, guardBy, paired}
+use Rattle.setup_words.specs.Words.{linesWord, number55, number240, bitsWord, guardWord, pmsav7Word, pmsav8Word, coreWord, m3Word, m0Word, isSame, areDigits, isNumber, numberFrom, started, coreBy, linesBy, bitsBy, guardBy, paired}
 
 -- words that name the 55-line chip, or the 240-line chip, with so many kept bits
 abbrev Names55 : ℕ → Words → Type 0
@@ -95,3 +95,18 @@ all-words = refl
 no-guard : (paired started guardWord (80 ∷ 77 ∷ 83 ∷ 65 ∷ 118 ∷ 56 ∷ []) .wrong ≡ true) × (paired started guardWord [] .wrong ≡ true) × (paired (paired started guardWord pmsav8Word) guardWord pmsav8Word .wrong ≡ true)
 unfolding paired guardBy isSame
 no-guard = (refl, refl, refl)
+
+-- `--core m0` and `--core m3`
+cores : (paired started coreWord m0Word .setup ≡ record { part = CortexM0; bits = 3; guard = Pmsav7 }) × (paired started coreWord m0Word .wrong ≡ false) × Names55 3 (paired started coreWord m3Word)
+unfolding paired coreBy isSame
+cores = (refl, refl, (refl, refl))
+
+-- `--core m0 --lines 240` and `--lines 240 --core m0` name the Cortex-M0, `--core m3 --lines 240` and `--lines 240 --core m3` the other chip
+either-order : (paired (paired started coreWord m0Word) linesWord number240 .setup .part ≡ CortexM0) × (paired (paired started linesWord number240) coreWord m0Word .setup .part ≡ CortexM0) × Names240 3 (paired (paired started coreWord m3Word) linesWord number240) × Names240 3 (paired (paired started linesWord number240) coreWord m3Word)
+unfolding paired coreBy linesBy isSame
+either-order = (refl, refl, (refl, refl), (refl, refl))
+
+-- `--core M0`, `--core` without a value, and `--core m0 --core m0`
+no-core : (paired started coreWord (77 ∷ 48 ∷ []) .wrong ≡ true) × (paired started coreWord [] .wrong ≡ true) × (paired (paired started coreWord m0Word) coreWord m0Word .wrong ≡ true)
+unfolding paired coreBy isSame
+no-core = (refl, refl, refl)

@@ -6,7 +6,7 @@ use lib.Dec.{leb, eqb}
 use Rattle.mpu.specs.declared.Edition.{Edition}
 use Rattle.mpu.specs.declared.Edition.the-variants.{Pmsav7, Pmsav8}
 use Rattle.rules.specs.declared.Part.{Part}
-use Rattle.rules.specs.declared.Part.the-variants.{Lines55, Lines240}
+use Rattle.rules.specs.declared.Part.the-variants.{Lines55, Lines240, CortexM0}
 use Rattle.setup_words.specs.declared.Words.{Words}
 
 -- "--lines", "55", "240"
@@ -32,6 +32,16 @@ pmsav7Word = 112 ∷ 109 ∷ 115 ∷ 97 ∷ 118 ∷ 55 ∷ []
 
 abbrev pub pmsav8Word : List ℕ
 pmsav8Word = 112 ∷ 109 ∷ 115 ∷ 97 ∷ 118 ∷ 56 ∷ []
+
+-- "--core", "m3", "m0"
+abbrev pub coreWord : List ℕ
+coreWord = 45 ∷ 45 ∷ 99 ∷ 111 ∷ 114 ∷ 101 ∷ []
+
+abbrev pub m3Word : List ℕ
+m3Word = 109 ∷ 51 ∷ []
+
+abbrev pub m0Word : List ℕ
+m0Word = 109 ∷ 48 ∷ []
 
 -- byte for byte
 unfoldable pub isSame : List ℕ → List ℕ → Bool
@@ -63,23 +73,41 @@ numberFrom n (b ∷ bs) = numberFrom (withDigit n b) bs
 
 -- No words: the 55-line chip, three bits, the guard of ARMv7-M.
 abbrev pub started : Words
-started = record { setup = record { part = Lines55; bits = 3; guard = Pmsav7 }; lines = false; bits = false; guard = false; wrong = false }
+started = record { setup = record { part = Lines55; bits = 3; guard = Pmsav7 }; core = false; lines = false; bits = false; guard = false; wrong = false }
 
 -- An unknown word, a value that is no choice or no number, or a word for the second time: whatever follows, the words stay wrong.
 abbrev pub mistaken : Words → Words
-mistaken w = record { setup = w .setup; lines = w .lines; bits = w .bits; guard = w .guard; wrong = true }
+mistaken w = record { setup = w .setup; core = w .core; lines = w .lines; bits = w .bits; guard = w .guard; wrong = true }
+
+-- the lines named, whichever word comes first: the Cortex-M0 has its own
+abbrev pub withLines : Part → Part → Part
+withLines Lines55 part = part
+withLines Lines240 part = part
+withLines CortexM0 part = CortexM0
 
 abbrev pub withPart : Words → Part → Words
 withPart w part =
-    record { setup = record { part = part; bits = w .setup .bits; guard = w .setup .guard }; lines = true; bits = w .bits; guard = w .guard; wrong = w .wrong }
+    record { setup = record { part = withLines (w .setup .part) part; bits = w .setup .bits; guard = w .setup .guard }; core = w .core; lines = true; bits = w .bits; guard = w .guard; wrong = w .wrong }
 
 abbrev pub keeping : Words → ℕ → Words
 keeping w n =
-    record { setup = record { part = w .setup .part; bits = n; guard = w .setup .guard }; lines = w .lines; bits = true; guard = w .guard; wrong = w .wrong }
+    record { setup = record { part = w .setup .part; bits = n; guard = w .setup .guard }; core = w .core; lines = w .lines; bits = true; guard = w .guard; wrong = w .wrong }
 
 abbrev pub guardedBy : Words → Edition → Words
 guardedBy w e =
-    record { setup = record { part = w .setup .part; bits = w .setup .bits; guard = e }; lines = w .lines; bits = w .bits; guard = true; wrong = w .wrong }
+    record { setup = record { part = w .setup .part; bits = w .setup .bits; guard = e }; core = w .core; lines = w .lines; bits = w .bits; guard = true; wrong = w .wrong }
+
+abbrev pub withCore : Words → Part → Words
+withCore w part =
+    record { setup = record { part = part; bits = w .setup .bits; guard = w .setup .guard }; core = true; lines = w .lines; bits = w .bits; guard = w .guard; wrong = w .wrong }
+
+-- `--core m3|m0`
+unfoldable pub coreBy : Words → List ℕ → Words
+coreBy w value =
+    cond (w .core) (mistaken w)
+    (cond (isSame value m3Word) (withCore w (w .setup .part))
+    (cond (isSame value m0Word) (withCore w CortexM0)
+    (mistaken w)))
 
 -- `--lines 55|240`
 unfoldable pub linesBy : Words → List ℕ → Words
@@ -110,4 +138,5 @@ paired w word value =
     cond (isSame word linesWord) (linesBy w value)
     (cond (isSame word bitsWord) (bitsBy w value)
     (cond (isSame word guardWord) (guardBy w value)
-    (mistaken w)))
+    (cond (isSame word coreWord) (coreBy w value)
+    (mistaken w))))

@@ -1,7 +1,8 @@
 // The words after a program's name that name a setup.
 ghost use mathlib.Core.Path.{_≡_};
+ghost use mathlib.Core.Bool.{cond};
 ghost use Prim.Native.Nat.{_-_};
-ghost use Rattle.setup_words.specs.Words.{isSame, isDigit, areDigits, isNumber, withDigit, numberFrom, started, mistaken, withPart, keeping, guardedBy, linesBy, bitsBy, guardBy, paired};
+ghost use Rattle.setup_words.specs.Words.{isSame, isDigit, areDigits, isNumber, withDigit, numberFrom, started, mistaken, withLines, withPart, keeping, guardedBy, withCore, coreBy, linesBy, bitsBy, guardBy, paired};
 use mpu::Edition;
 use rules::Part;
 use rules::Setup;
@@ -9,6 +10,7 @@ use rules::Setup;
 // The setup named so far, which words named it, and whether one of the words or values was wrong.
 pub struct Words {
     pub setup: Setup,
+    pub core: bool,
     pub lines: bool,
     pub bits: bool,
     pub guard: bool,
@@ -31,6 +33,17 @@ fn same(a: &[u8], b: &[u8]) -> bool
     true
 }
 
+// The lines named, whichever word comes first: the Cortex-M0 has its own.
+fn with_lines(named: Part, part: Part) -> Part
+    ensures { λ r. ⌜ r ≡ withLines named part ⌝ }
+{
+    match named {
+        Part::Lines55 => part,
+        Part::Lines240 => part,
+        Part::CortexM0 => named,
+    }
+}
+
 impl Words {
     fn mistaken(self) -> Words
         ensures { λ r. ⌜ r ≡ mistaken self ⌝ }
@@ -38,6 +51,7 @@ impl Words {
         let setup = self.setup;
         Words {
             setup,
+            core: self.core,
             lines: self.lines,
             bits: self.bits,
             guard: self.guard,
@@ -49,13 +63,15 @@ impl Words {
         ensures { λ r. ⌜ r ≡ withPart self part ⌝ }
     {
         let setup = self.setup;
+        let named = setup.part;
         let guard = setup.guard;
         Words {
             setup: Setup {
-                part,
+                part: with_lines(named, part),
                 bits: setup.bits,
                 guard,
             },
+            core: self.core,
             lines: true,
             bits: self.bits,
             guard: self.guard,
@@ -71,6 +87,7 @@ impl Words {
         let guard = setup.guard;
         Words {
             setup: Setup { part, bits, guard },
+            core: self.core,
             lines: self.lines,
             bits: true,
             guard: self.guard,
@@ -89,9 +106,29 @@ impl Words {
                 bits: setup.bits,
                 guard,
             },
+            core: self.core,
             lines: self.lines,
             bits: self.bits,
             guard: true,
+            wrong: self.wrong,
+        }
+    }
+
+    fn with_core(self, part: Part) -> Words
+        ensures { λ r. ⌜ r ≡ withCore self part ⌝ }
+    {
+        let setup = self.setup;
+        let guard = setup.guard;
+        Words {
+            setup: Setup {
+                part,
+                bits: setup.bits,
+                guard,
+            },
+            core: true,
+            lines: self.lines,
+            bits: self.bits,
+            guard: self.guard,
             wrong: self.wrong,
         }
     }
@@ -159,19 +196,48 @@ fn number_of(bytes: &[u8]) -> u32
     n
 }
 
+// One of two values, and what the words are with each.
+fn one_of(
+    words: Words,
+    value: &[u8],
+    first: &[u8],
+    one: Words,
+    second: &[u8],
+    other: Words,
+) -> Words
+    ensures { λ r. ⌜ r ≡ cond (isSame (now (value .entry)) (now (first .entry))) one (cond (isSame (now (value .entry)) (now (second .entry))) other (mistaken words)) ⌝ }
+{
+    if same(value, first) {
+        return one;
+    }
+    if same(value, second) {
+        return other;
+    }
+    words.mistaken()
+}
+
+fn core_by(words: Words, value: &[u8]) -> Words
+    ensures { λ r. ⌜ r ≡ coreBy words (now (value .entry)) ⌝ }
+{
+    if words.core {
+        return words.mistaken();
+    }
+    let setup = words.setup;
+    let part = setup.part;
+    let m3 = words.with_core(part);
+    let m0 = words.with_core(Part::CortexM0);
+    one_of(words, value, b"m3", m3, b"m0", m0)
+}
+
 fn lines_by(words: Words, value: &[u8]) -> Words
     ensures { λ r. ⌜ r ≡ linesBy words (now (value .entry)) ⌝ }
 {
     if words.lines {
         return words.mistaken();
     }
-    if same(value, b"55") {
-        return words.with_part(Part::Lines55);
-    }
-    if same(value, b"240") {
-        return words.with_part(Part::Lines240);
-    }
-    words.mistaken()
+    let few = words.with_part(Part::Lines55);
+    let many = words.with_part(Part::Lines240);
+    one_of(words, value, b"55", few, b"240", many)
 }
 
 fn bits_by(words: Words, value: &[u8]) -> Words
@@ -192,16 +258,12 @@ fn guard_by(words: Words, value: &[u8]) -> Words
     if words.guard {
         return words.mistaken();
     }
-    if same(value, b"pmsav7") {
-        return words.guarded_by(Edition::Pmsav7);
-    }
-    if same(value, b"pmsav8") {
-        return words.guarded_by(Edition::Pmsav8);
-    }
-    words.mistaken()
+    let pmsav7 = words.guarded_by(Edition::Pmsav7);
+    let pmsav8 = words.guarded_by(Edition::Pmsav8);
+    one_of(words, value, b"pmsav7", pmsav7, b"pmsav8", pmsav8)
 }
 
-// Before the first word: the 55-line chip, three bits, the guard of ARMv7-M.
+// Before the first word: the Cortex-M3 with 55 lines, three bits, the guard of ARMv7-M.
 pub fn start() -> Words
     ensures { λ r. ⌜ r ≡ started ⌝ }
 {
@@ -211,6 +273,7 @@ pub fn start() -> Words
             bits: 3,
             guard: Edition::Pmsav7,
         },
+        core: false,
         lines: false,
         bits: false,
         guard: false,
@@ -230,6 +293,9 @@ pub fn pair(words: Words, word: &[u8], value: &[u8]) -> Words
     }
     if same(word, b"--guard") {
         return guard_by(words, value);
+    }
+    if same(word, b"--core") {
+        return core_by(words, value);
     }
     words.mistaken()
 }

@@ -20,7 +20,7 @@ fn main() {
     if words.wrong {
         io::write_all(
             STDOUT_FILENO,
-            b"usage: simulate [--lines 55|240] [--bits N] [--guard pmsav7|pmsav8]\n",
+            b"usage: simulate [--core m3|m0] [--lines 55|240] [--bits N] [--guard pmsav7|pmsav8]\n",
         );
         return;
     }

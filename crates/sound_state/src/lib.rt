@@ -11,8 +11,11 @@ ghost use Rattle.mpu.specs.Soundness.{soundMpu};
 ghost use Rattle.rules.specs.declared.Core.{Core};
 ghost use Rattle.rules.specs.Lent.{modelOf};
 ghost use Rattle.rules.specs.Sound.{isSized, soundSystem, isSound};
+use bools::both;
 use rules::Chip;
 use rules::Core;
+
+mod bare;
 
 // The lists have the chip's lengths.
 fn is_sized(
@@ -99,7 +102,7 @@ pub fn is_sound(
     if !soundness::sound_nest(chip, active, nest, core.depth) {
         return false;
     }
-    is_core_sound(chip, core)
+    both(is_core_sound(chip, core), bare::fits_profile(chip, core))
 }
 
 // The execution priority of a sound state: its nest holds exactly the active exceptions (`execution-nest` of `demand3`) and is short,

@@ -5,7 +5,7 @@ use lib.ListN.{length}
 use lib.IntN.{ℤ}
 use Rattle.rules.specs.declared.Chip.{Chip}
 use Rattle.rules.specs.Model.{Model}
-use Rattle.rules.specs.Laws.{vtable-below}
+use Rattle.rules.specs.Laws.{few-exist, vtable-below}
 use Rattle.demand3.proofs.Check.{depth-fits}
 use Rattle.step.specs.Ready.{Ready}
 
@@ -15,4 +15,5 @@ enterable {c} {m} r =
     let l = r .lines in
     let s = r .sound .pending .size in
     let d = depth-fits (r .sound) in
+    let f = few-exist c in
     (omega arith, (omega arith, vtable-below c (m .core .system .vtable) (r .sound .core .system .vtable)))

@@ -54,16 +54,15 @@ pub fn act(
         Event::Nmi => lines::nmi(pending, core),
         Event::Tick => lines::ticks::tick(pending, core),
         Event::Fault(bit, address) => {
-            faults::fault(pending, enabled, priority, core, limit, bit, address)
+            faults::fault(chip, pending, enabled, priority, core, limit, bit, address)
         }
-        Event::Svc => faults::svc(pending, enabled, priority, core, limit),
+        Event::Svc => faults::svc(chip, pending, enabled, priority, core, limit),
         Event::Special(which, value) => special::special(chip, core, limit, which, value),
         Event::Entry => entry::entry(pending, active, enabled, priority, nest, core, limit),
         Event::Return(value) => returning::return_(pending, active, level, nest, core, value),
         Event::Access(kind, width, address) => {
             let number = script::access_number(kind);
-            let edition = chip.guard;
-            access::access(edition, core, limit, number, width, address)
+            access::access_by(chip, core, limit, number, width, address)
         }
         Event::Lost(line) => pulses::lost(chip, lost, core, line),
         Event::Skip(count) => lines::ticks::skip(pending, core, count),

@@ -138,6 +138,7 @@ fn word_written(
         }
         Register::System(r) => system_written(chip, r, v, pending, enabled, core),
         Register::Guard(r) => guard_written(core, r, v),
+        Register::Constant(_) => core,
     }
 }
 
@@ -152,6 +153,7 @@ fn byte_written(chip: Chip, register: Register, lane: u32, v: u32, priority: &mu
         Register::Priority(n) => nvic::bytes::put_byte_after(priority, chip, n, lane, v),
         Register::System(_) => {}
         Register::Guard(_) => {}
+        Register::Constant(_) => {}
     }
 }
 
@@ -192,9 +194,9 @@ pub fn write(
 ) -> Outcome
     ensures { λ r. ⌜ ((m : Model) → answer r (withPriority (now (priority .exit)) (withLevel (now (level .entry)) (withEnabled (now (enabled .exit)) (withActive (now (active .entry)) (withPending (now (pending .exit)) m))))) ≡ writeCall chip (withCore core (withPriority (now (priority .entry)) (withLevel (now (level .entry)) (withEnabled (now (enabled .entry)) (withActive (now (active .entry)) (withPending (now (pending .entry)) m)))))) width address value) ⌝ }
 {
-    let register = map::register_at(chip, address - address % 4);
+    let register = map::register_of(chip, address);
     let allowed = may_write(core, width, address);
-    let refusal = map::checks::access_refusal(register, allowed, width, address);
+    let refusal = map::checks::access_refusal(chip, register, allowed, width, address);
     if refusal == 0 {
         if width == 4 {
             let next = word_written(

@@ -16,11 +16,11 @@ use Rattle.any_run.proofs.start.Tie as tie
 
 usable : (setup : Setup) → Usable (started setup)
 unfolding fresh
-usable setup = subst (λ (m : Model). pieces.Usable (chipOf setup) m pieces.started) (sym (fresh-viewed setup)) (started-usable (chipOf setup))
+usable setup = subst (λ (m : Model). pieces.Usable (chipOf setup) m (pieces.started (chipOf setup))) (sym (fresh-viewed setup)) (started-usable (chipOf setup))
 
 text : (setup : Setup) (script : List ℕ) → restOf script (started setup) ≡ textOf (chipOf setup) script
 unfolding fresh
-text setup script = subst (λ (m : Model). pieces.restOf (chipOf setup) script m pieces.started ≡ textOf (chipOf setup) script) (sym (fresh-viewed setup)) (started-rest (chipOf setup) script)
+text setup script = subst (λ (m : Model). pieces.restOf (chipOf setup) script m (pieces.started (chipOf setup)) ≡ textOf (chipOf setup) script) (sym (fresh-viewed setup)) (started-rest (chipOf setup) script)
 
 fresh-requires : tie.Need-fresh-requires
 fresh-requires c κs = search needs

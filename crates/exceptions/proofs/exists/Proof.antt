@@ -1,4 +1,4 @@
--- Each listed number passes by computation; any other differs from all eight.
+-- Each listed number passes by computation; any other differs from all five.
 use mathlib.Core.Path.{sym, ap, _∙_}
 use borrow.Author.Tests.{ne-eqb}
 use Rattle.rules.specs.Chip.{exists}
@@ -6,8 +6,8 @@ use borrow.Author.Needs.{needs}
 use Rattle.exceptions.proofs.exists.Statement.{statement}
 use Rattle.exceptions.proofs.exists.Tie as tie
 
-is-line-requires : tie.Need-is-line-requires
-is-line-requires c κs = search needs
+has-enable-requires : tie.Need-has-enable-requires
+has-enable-requires c κs = search needs
 
 returns : tie.Need-returns
 returns c = sym (ap (exists (c .before .args .chip)) (c .match .keys1))
@@ -25,30 +25,18 @@ returns-5 : tie.Need-returns-5
 returns-5 c = sym (ap (exists (c .before .args .chip)) (c .match .keys5))
 
 returns-6 : tie.Need-returns-6
-returns-6 c = sym (ap (exists (c .before .args .chip)) (c .match .keys6))
-
-returns-7 : tie.Need-returns-7
-returns-7 c = sym (ap (exists (c .before .args .chip)) (c .match .keys7))
-
-returns-8 : tie.Need-returns-8
-returns-8 c = sym (ap (exists (c .before .args .chip)) (c .match .keys8))
-
-returns-9 : tie.Need-returns-9
-returns-9 c =
+returns-6 c =
     let r = c .before .match .rest in
-    c .is-line .ensures ∙ simp (ne-eqb _ _ (r .1), ne-eqb _ _ (r .0 .1), ne-eqb _ _ (r .0 .0 .1), ne-eqb _ _ (r .0 .0 .0 .1), ne-eqb _ _ (r .0 .0 .0 .0 .1), ne-eqb _ _ (r .0 .0 .0 .0 .0 .1), ne-eqb _ _ (r .0 .0 .0 .0 .0 .0 .1), ne-eqb _ _ (r .0 .0 .0 .0 .0 .0 .0 .1))
+    c .has-enable .ensures ∙ simp (ne-eqb _ _ (r .1), ne-eqb _ _ (r .0 .1), ne-eqb _ _ (r .0 .0 .1), ne-eqb _ _ (r .0 .0 .0 .1), ne-eqb _ _ (r .0 .0 .0 .0 .1))
 
 pub exists-spec : {M : Type 1} → statement M
 exists-spec =
     tie.close
     (tie.spec
-    is-line-requires
+    has-enable-requires
     returns
     returns-2
     returns-3
     returns-4
     returns-5
-    returns-6
-    returns-7
-    returns-8
-    returns-9)
+    returns-6)

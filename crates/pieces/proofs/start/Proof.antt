@@ -9,7 +9,7 @@ fresh-core-requires : tie.Need-fresh-core-requires
 fresh-core-requires c κs = search needs
 
 returns : tie.Need-returns
-returns c = rw (c .fresh-core .ensures) (refl, (λ chip. started-usable chip, λ chip script. started-rest chip script))
+returns c = rw (c .fresh-core .ensures) (refl, (started-usable (c .before .args .chip), λ script. started-rest (c .before .args .chip) script))
 
 pub start-spec : {M : Type 1} → statement M
 start-spec = tie.close (tie.spec fresh-core-requires returns)

@@ -43,6 +43,9 @@ enum-known-register-5 c = search needs
 read-requires : tie.Need-read-requires
 read-requires c κs = search needs
 
+enum-known-register-6 : tie.Need-enum-known-register-6
+enum-known-register-6 c = search needs
+
 returns : tie.Need-returns
 unfolding valueOf
 returns c = λ m. simp (c .enum-told .given .1)
@@ -69,6 +72,10 @@ returns-6 : tie.Need-returns-6
 unfolding valueOf
 returns-6 c = λ m. c .read .ensures ∙ simp (c .before .before .register5 .given .1)
 
+returns-7 : tie.Need-returns-7
+unfolding valueOf
+returns-7 c = λ m. simp (c .before .register6 .given .1)
+
 pub value-of-spec : {M : Type 1} → statement M
 value-of-spec =
     tie.close
@@ -84,9 +91,11 @@ value-of-spec =
     system-value-requires
     enum-known-register-5
     read-requires
+    enum-known-register-6
     returns
     returns-2
     returns-3
     returns-4
     returns-5
-    returns-6)
+    returns-6
+    returns-7)

@@ -12,6 +12,9 @@ not-lines c = c .before .before
 abbrev not-bits : tie.After-same3 → tie.Else2
 not-bits c = c .before .before
 
+abbrev not-guard : tie.After-same4 → tie.Else3
+not-guard c = c .before .before
+
 slice-aggregate-same : tie.Need-slice-aggregate-same
 slice-aggregate-same c = search needs
 
@@ -58,16 +61,35 @@ returns-3 c =
     let a = not-lines (b .before) in
     rw (c .guard-by .ensures, sym (a .before .same .ensures), a .if1 .left, sym (b .before .same2 .ensures), b .if2 .left, sym (d .same3 .ensures), c .before .if3 .taken)
 
-mistaken-requires : tie.Need-mistaken-requires
-mistaken-requires c κs = search needs
+slice-aggregate-same-4 : tie.Need-slice-aggregate-same-4
+slice-aggregate-same-4 c = search needs
+
+same-requires-4 : tie.Need-same-requires-4
+same-requires-4 c κs = search needs
+
+core-by-requires : tie.Need-core-by-requires
+core-by-requires c κs = search needs
 
 returns-4 : tie.Need-returns-4
 unfolding paired
 returns-4 c =
-    let d = c .before .before in
-    let b = not-bits d in
+    let f = c .before .before in
+    let d = not-guard f in
+    let b = not-bits (d .before) in
     let a = not-lines (b .before) in
-    rw (c .mistaken .ensures, sym (a .before .same .ensures), a .if1 .left, sym (b .before .same2 .ensures), b .if2 .left, sym (d .same3 .ensures), c .before .if3 .left)
+    rw (c .core-by .ensures, sym (a .before .same .ensures), a .if1 .left, sym (b .before .same2 .ensures), b .if2 .left, sym (d .before .same3 .ensures), d .if3 .left, sym (f .same4 .ensures), c .before .if4 .taken)
+
+mistaken-requires : tie.Need-mistaken-requires
+mistaken-requires c κs = search needs
+
+returns-5 : tie.Need-returns-5
+unfolding paired
+returns-5 c =
+    let f = c .before .before in
+    let d = not-guard f in
+    let b = not-bits (d .before) in
+    let a = not-lines (b .before) in
+    rw (c .mistaken .ensures, sym (a .before .same .ensures), a .if1 .left, sym (b .before .same2 .ensures), b .if2 .left, sym (d .before .same3 .ensures), d .if3 .left, sym (f .same4 .ensures), c .before .if4 .left)
 
 pub pair-spec : {M : Type 1} → statement M
 pair-spec =
@@ -85,5 +107,9 @@ pair-spec =
     same-requires-3
     guard-by-requires
     returns-3
+    slice-aggregate-same-4
+    same-requires-4
+    core-by-requires
+    returns-4
     mistaken-requires
-    returns-4)
+    returns-5)

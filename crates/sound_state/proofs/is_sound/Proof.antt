@@ -63,9 +63,17 @@ returns-4 c = simp (sym ((at-is-sized (c .before)) .is-sized .ensures ((at-start
 is-core-sound-requires : tie.Need-is-core-sound-requires
 is-core-sound-requires c κs = search needs
 
+fits-profile-requires : tie.Need-fits-profile-requires
+fits-profile-requires c κs = search needs
+
+both-requires : tie.Need-both-requires
+both-requires c κs = search needs
+
 returns-5 : tie.Need-returns-5
 unfolding isSound
-returns-5 c = c .is-core-sound .ensures ∙ simp (sym ((at-is-sized (c .before .before)) .is-sized .ensures ((at-start-2 (c .before .before)) .args .core)) ∙ not-false _ ((at-else1 (c .before .before)) .if1 .left), sym ((at-sound-flags (c .before .before)) .sound-flags .ensures) ∙ not-false _ (c .before .before .before .before .before .if2 .left), sym (c .before .before .before .before .bytes-sound .ensures) ∙ not-false _ (c .before .before .before .if3 .left), sym (c .before .before .sound-nest .ensures) ∙ not-false _ (c .before .if4 .left), counts-held ((at-start-2 (c .before .before)) .args .lost .now) ((at-start-2 (c .before .before)) .args .chip .lines) (λ i. omega (arith, (at-is-sized (c .before .before)) .before .shared-slice-known7 .given i)))
+returns-5 d =
+    let c = d .before .before in
+    d .both .ensures ∙ simp (d .before .fits-profile .ensures, c .is-core-sound .ensures, sym ((at-is-sized (c .before .before)) .is-sized .ensures ((at-start-2 (c .before .before)) .args .core)) ∙ not-false _ ((at-else1 (c .before .before)) .if1 .left), sym ((at-sound-flags (c .before .before)) .sound-flags .ensures) ∙ not-false _ (c .before .before .before .before .before .if2 .left), sym (c .before .before .before .before .bytes-sound .ensures) ∙ not-false _ (c .before .before .before .if3 .left), sym (c .before .before .sound-nest .ensures) ∙ not-false _ (c .before .if4 .left), counts-held ((at-start-2 (c .before .before)) .args .lost .now) ((at-start-2 (c .before .before)) .args .chip .lines) (λ i. omega (arith, (at-is-sized (c .before .before)) .before .shared-slice-known7 .given i)))
 
 pub is-sound-spec : {M : Type 1} → statement M
 is-sound-spec =
@@ -80,4 +88,6 @@ is-sound-spec =
     sound-nest-requires
     returns-4
     is-core-sound-requires
+    fits-profile-requires
+    both-requires
     returns-5)

@@ -105,8 +105,8 @@ enum-known-event-7 c = search needs
 access-number-requires : tie.Need-access-number-requires
 access-number-requires c κs = search needs
 
-access-requires : tie.Need-access-requires
-access-requires c κs = search needs
+access-by-requires : tie.Need-access-by-requires
+access-by-requires c κs = search needs
 
 enum-known-event-8 : tie.Need-enum-known-event-8
 enum-known-event-8 c = search needs
@@ -282,7 +282,7 @@ returns-11 : tie.Need-returns-11
 returns-11 c =
     let e = c .before .before .before in
     let s = begun (e .before .before) in
-    c .access .ensures (before s) ∙ simp (toZ-ofZ (s .fits .limit) ∙ s .pre .priority, c .before .access-number .ensures, e .event7 .given .1)
+    c .access-by .ensures (before s) ∙ simp (toZ-ofZ (s .fits .limit) ∙ s .pre .priority, c .before .access-number .ensures, e .event7 .given .1)
 
 same-length-31 : tie.Need-same-length-31
 same-length-31 c = search needs
@@ -328,7 +328,7 @@ act-spec =
     return--requires
     enum-known-event-7
     access-number-requires
-    access-requires
+    access-by-requires
     enum-known-event-8
     lost-requires
     enum-known-event-9

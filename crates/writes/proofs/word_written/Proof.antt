@@ -49,6 +49,9 @@ enum-known-register-5 c = search needs
 guard-written-requires : tie.Need-guard-written-requires
 guard-written-requires c κs = search needs
 
+enum-told-2 : tie.Need-enum-told-2
+enum-told-2 c = search needs
+
 returns : tie.Need-returns
 unfolding wordWritten
 returns c = λ m. simp (c .enum-told .given .1)
@@ -88,6 +91,10 @@ returns-6 : tie.Need-returns-6
 unfolding wordWritten
 returns-6 c = λ m. c .guard-written .ensures ((at-start (c .before .before .before .before)) .args .chip) (withPriority _ (withLevel _ (withEnabled _ (withActive _ (withPending _ m))))) ∙ simp (c .before .before .register5 .given .1)
 
+returns-7 : tie.Need-returns-7
+unfolding wordWritten
+returns-7 c = λ m. simp (c .enum-told2 .given .1)
+
 pub word-written-spec : {M : Type 1} → statement M
 word-written-spec =
     tie.close
@@ -103,6 +110,7 @@ word-written-spec =
     system-written-requires
     enum-known-register-5
     guard-written-requires
+    enum-told-2
     returns
     returns-2
     same-length
@@ -113,4 +121,5 @@ word-written-spec =
     same-length-4
     same-length-5
     returns-5
-    returns-6)
+    returns-6
+    returns-7)

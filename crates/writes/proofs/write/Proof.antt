@@ -8,14 +8,11 @@ use Rattle.writes.proofs.write.Statement.{statement}
 use Rattle.writes.proofs.write.Tie as tie
 
 -- an earlier place of the function, from a later one
-abbrev at-start : tie.After-register-at → tie.Start
+abbrev at-start : tie.After-register-of → tie.Start
 at-start c = c .before .before .before .before .before .before
 
-sub-register-at : tie.Need-sub-register-at
-sub-register-at c = search needs
-
-register-at-requires : tie.Need-register-at-requires
-register-at-requires c κs = search needs
+register-of-requires : tie.Need-register-of-requires
+register-of-requires c κs = search needs
 
 may-write-requires : tie.Need-may-write-requires
 may-write-requires c κs = search needs
@@ -44,7 +41,7 @@ returns c =
     let e = c .before .before .before .before in
     let t = e .before .before .before in
     let w = t .before .before .before .before in
-    λ m. simp (c .accepted .ensures, t .word-written .ensures m, w .before .before .before .before .register-at .ensures, sym (simp (w .before .before .before .before .register-at .ensures, w .before .before .before .may-write .ensures, eq-eqb _ _ (w .if2 .taken)) at (w .before .before .access-refusal .ensures)), eq-eqb _ _ (w .before .if1 .taken), eq-eqb _ _ (w .if2 .taken))
+    λ m. simp (c .accepted .ensures, t .word-written .ensures m, w .before .before .before .before .register-of .ensures, sym (simp (w .before .before .before .before .register-of .ensures, w .before .before .before .may-write .ensures, eq-eqb _ _ (w .if2 .taken)) at (w .before .before .access-refusal .ensures)), eq-eqb _ _ (w .before .if1 .taken), eq-eqb _ _ (w .if2 .taken))
 
 byte-written-requires : tie.Need-byte-written-requires
 byte-written-requires c κs = search needs
@@ -60,21 +57,20 @@ unfolding writeCall written
 returns-2 c =
     let w = c .before .before .before .before .before in
     let s = at-start (w .before .before .before .before) in
-    λ m. simp (c .accepted2 .ensures, c .before .before .before .byte-written .ensures (withCore (s .args .core) (withLevel (s .args .level .now) (withEnabled (s .args .enabled .now) (withActive (s .args .active .now) (withPending (s .args .pending .now) m))))), w .before .before .before .before .register-at .ensures, sym (simp (w .before .before .before .before .register-at .ensures, w .before .before .before .may-write .ensures, ne-eqb _ _ (w .if2 .left)) at (w .before .before .access-refusal .ensures)), eq-eqb _ _ (w .before .if1 .taken), ne-eqb _ _ (w .if2 .left))
+    λ m. simp (c .accepted2 .ensures, c .before .before .before .byte-written .ensures (withCore (s .args .core) (withLevel (s .args .level .now) (withEnabled (s .args .enabled .now) (withActive (s .args .active .now) (withPending (s .args .pending .now) m))))), w .before .before .before .before .register-of .ensures, sym (simp (w .before .before .before .before .register-of .ensures, w .before .before .before .may-write .ensures, ne-eqb _ _ (w .if2 .left)) at (w .before .before .access-refusal .ensures)), eq-eqb _ _ (w .before .if1 .taken), ne-eqb _ _ (w .if2 .left))
 
 refused-requires : tie.Need-refused-requires
 refused-requires c κs = search needs
 
 returns-3 : tie.Need-returns-3
 unfolding writeCall
-returns-3 c = λ m. simp (c .refused .ensures, sym (simp (c .before .before .before .before .register-at .ensures, c .before .before .before .may-write .ensures) at (c .before .before .access-refusal .ensures)), ne-eqb _ _ (c .before .if1 .left))
+returns-3 c = λ m. simp (c .refused .ensures, sym (simp (c .before .before .before .before .register-of .ensures, c .before .before .before .may-write .ensures) at (c .before .before .access-refusal .ensures)), ne-eqb _ _ (c .before .if1 .left))
 
 pub write-spec : {M : Type 1} → statement M
 write-spec =
     tie.close
     (tie.spec
-    sub-register-at
-    register-at-requires
+    register-of-requires
     may-write-requires
     access-refusal-requires
     word-written-requires
