@@ -479,6 +479,17 @@ def small(r, deep):
             yield from ([7], [9], [8, 4, 0], [10, 0xFFFFFFF9])
 
 
+def ready(r):
+    """Eight lines of any priority, enabled, some of them made pending; seldom NMI."""
+    settings = [[2, 4, 0xE000E400, r.getrandbits(32)], [2, 4, 0xE000E404, r.getrandbits(32)], [2, 4, BANKS[0], 0xFF]]
+    return [*settings, *([3, line, 1] for line in r.sample(range(8), r.randrange(4))), *r.choice([[]] * 9 + [[[4]]])]
+
+
+def masks(r):
+    """Up to four writes to PRIMASK, FAULTMASK, BASEPRI and BASEPRI_MAX."""
+    return [[8, r.randrange(4), r.choice([0, 1, 1, r.randrange(256), r.randrange(256)])] for _ in range(r.randrange(5))]
+
+
 def is_old(event):
     """Whether E4's proviso lets the event stand in an old script."""
     if event[0] in (3, 12):

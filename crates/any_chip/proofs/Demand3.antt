@@ -19,7 +19,7 @@ use Rattle.any_chip.specs.View.{model, state, reply}
 use Rattle.any_chip.specs.Demand3.{answer, Called, stop, call, CodeDemand3}
 use Rattle.any_chip.proofs.View.{view-laws}
 
-answered : (setup : Setup) (a : Answer) → Sound (chipOf setup) (a .next) → answer (reply setup a) ≡ a
+pub answered : (setup : Setup) (a : Answer) → Sound (chipOf setup) (a .next) → answer (reply setup a) ≡ a
 answered setup a h =
     ap (λ (m : Model). record { refusal = a .refusal; value = a .value; vector = a .vector; link = a .link; next = m }) (view-laws .viewed setup (a .next) h)
 
@@ -29,6 +29,10 @@ called {s = s} setup q h (call {e = e} {r = r} k more) =
     let replied : r ≡ reply setup (stepOf (chipOf setup) (model s) e) = k ∙ ap (λ (u : Setup). reply u (stepOf (chipOf u) (model s) e)) q in
     let a : answer r ≡ stepOf (chipOf setup) (model s) e = ap answer replied ∙ answered setup (stepOf (chipOf setup) (model s) e) (step-keeps h e) in
     claim.call a (called setup (ap (λ (u : Reply). u .state .setup) replied) (subst (λ (u : Answer). Sound (chipOf setup) (u .next)) (sym a) (step-keeps h e)) more)
+
+pub called-setup : {s t : State} {es : List Event} {rs : List Reply} → Called s es rs t → t .setup ≡ s .setup
+called-setup stop = refl
+called-setup (call k more) = called-setup more ∙ ap (λ (r : Reply). r .state .setup) k
 
 -- from the fresh state
 pub called-fresh : {t : State} {es : List Event} {rs : List Reply} (setup : Setup) → Called (state setup (fresh (chipOf setup))) es rs t → Calls (chipOf setup) (fresh (chipOf setup)) es (map answer rs) (model t)

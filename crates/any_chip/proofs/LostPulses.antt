@@ -1,11 +1,10 @@
 -- The rules' theorem at a setup's chip. The view has the count of each line of the chip.
 use Prim.Native.Nat.{ℕ, _≤_, _<_}
-use mathlib.Core.Path.{_≡_, refl, sym, ap, subst, _∙_}
-use mathlib.Core.List.{List, map}
+use mathlib.Core.Path.{_≡_, sym, ap, subst, _∙_}
+use mathlib.Core.List.{map}
 use native.Mathlib.Omega.{arith}
 use lib.ListN.{getD}
 use lib.Seq.{getD-take}
-use Rattle.script.specs.declared.Event.{Event}
 use Rattle.script.specs.declared.Event.the-variants.{Lost}
 use Rattle.rules.specs.declared.Setup.{Setup}
 use Rattle.rules.specs.Chip.{chipOf}
@@ -15,16 +14,12 @@ use Rattle.any_chip.specs.declared.State.{State}
 use Rattle.any_chip.specs.declared.Reply.{Reply}
 use Rattle.any_chip.specs.View.{reachIn, model, state, reply}
 use Rattle.any_chip.specs.ViewLaws.{Sized}
-use Rattle.any_chip.specs.Demand3.{answer, Called, stop, call}
+use Rattle.any_chip.specs.Demand3.{answer}
 use Rattle.any_chip.specs.LostPulses.{heldCount, CodeLostPulses}
 use Rattle.places.specs.Places.{nonzero}
 use Rattle.places.proofs.Laws.{reach-least}
 use Rattle.any_chip.proofs.View.{view-laws, lines-fit}
-use Rattle.any_chip.proofs.Demand3.{called-fresh}
-
-called-setup : {s t : State} {es : List Event} {rs : List Reply} → Called s es rs t → t .setup ≡ s .setup
-called-setup stop = refl
-called-setup (call k more) = called-setup more ∙ ap (λ (r : Reply). r .state .setup) k
+use Rattle.any_chip.proofs.Demand3.{called-setup, called-fresh}
 
 count-viewed : (s : State) (line : ℕ) → line < chipOf (s .setup) .lines → getD (model s .lost) line 0 ≡ getD (s .lost) line 0
 count-viewed s line l =

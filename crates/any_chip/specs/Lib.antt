@@ -9,3 +9,4 @@ pub mod LostPulses
 pub mod IdleTime
 pub mod GuardEditions
 pub mod SmallCore
+pub mod MasksHoldBack

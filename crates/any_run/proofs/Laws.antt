@@ -2,7 +2,7 @@
 use Prim.Native.Nat.{ℕ}
 use mathlib.Core.Path.{_≡_, refl, sym, ap, _∙_, subst}
 use mathlib.Core.Logic.{_⊎_, inl, inr}
-use mathlib.Core.List.{List, [], _∷_}
+use mathlib.Core.List.{List, []}
 use mathlib.Core.Bool.{Bool, _||_}
 use lib.ListN.{length, take}
 use lib.Seq.{take-nil}
@@ -12,13 +12,12 @@ use Rattle.script.specs.declared.Event.{Event}
 use Rattle.script.specs.Script.{Script}
 use Rattle.rules.specs.declared.Chip.{Chip}
 use Rattle.rules.specs.declared.Core.{Core}
-use Rattle.rules.specs.declared.Setup.{Setup}
 use Rattle.rules.specs.Chip.{chipOf, fits}
-use Rattle.rules.specs.Model.{Model, fresh}
+use Rattle.rules.specs.Model.{Model}
 use Rattle.rules.specs.Sound.{isSound, Sound}
-use Rattle.rules.specs.Step.{stepOf, runOf}
+use Rattle.rules.specs.Step.{runOf}
 use Rattle.demand3.proofs.Check.{of-sound}
-use Rattle.demand3.proofs.Steps.{step-keeps, sound-fresh}
+use Rattle.demand3.proofs.Reached.{run-keeps}
 use Rattle.pieces.specs.declared.Course.{Course}
 use Rattle.pieces.specs.Pieces as pieces
 use Rattle.pieces.specs.Pieces.{Piece, scriptAt, isUsable, ran, goneOn, pieceOf}
@@ -32,10 +31,6 @@ use Rattle.any_run.specs.Progress.{chip, course, Ran}
 
 abbrev Left : Chip → Model → Model → Type 0
 Left c m t = (t ≡ m) ⊎ (Sound c t × Sound c m)
-
-run-keeps : {c : Chip} {m : Model} → Sound c m → (es : List Event) → Sound c (runOf c m es)
-run-keeps h [] = h
-run-keeps h (e ∷ es) = run-keeps (step-keeps h e) es
 
 ran-left : (c : Chip) (script : List ℕ) (m : Model) (at events : ℕ) (s : Script) (n : ℕ) (ended : Bool) → (s .events ≡ []) ⊎ Sound c m → Left c m (ran c script m at events s n ended .model)
 unfolding ran

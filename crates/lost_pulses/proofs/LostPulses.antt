@@ -27,6 +27,7 @@ use Rattle.demand3.specs.Demand3.{Calls, stop, call}
 use Rattle.demand3.proofs.Parts.{getD-fresh}
 use Rattle.demand3.proofs.Check.{step-sound}
 use Rattle.demand3.proofs.Steps.{step-keeps, sound-fresh}
+use Rattle.demand3.proofs.Reached.{calls-sound}
 use Rattle.lost_pulses.specs.History.{lostRise, risesLost, history}
 use Rattle.lost_pulses.specs.LostPulses.{butCounts, LostPulses, E1}
 use Rattle.lost_pulses.proofs.Cases.{cases-hold}
@@ -224,10 +225,6 @@ module _ (c : Chip) where
         go (is-other n3 n12) = resting (actOf c m e) (same-levels c m e n3) (act-kept m e n3)
 
   -- ---- lists of calls
-
-  calls-sound : {m t : Model} {es : List Event} {rs : List Answer} → Calls c m es rs t → Sound c m → Sound c t
-  calls-sound stop h = h
-  calls-sound (call {e = e} q more) h = calls-sound more (subst (λ (x : Answer). Sound c (x .next)) (sym q) (step-keeps h e))
 
   calls-moved : (line : ℕ) → line < c .lines → {m t : Model} {es : List Event} {rs : List Answer} → Calls c m es rs t → Sound c m → getD (t .lost) line 0 ≡ min (getD (m .lost) line 0 + risesLost line m rs) 65535
   calls-moved line k stop h = none-more _ (h .lost .most line)

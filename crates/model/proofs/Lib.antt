@@ -5,3 +5,4 @@ pub mod ComesAndGoes
 pub mod LostPulses
 pub mod IdleTime
 pub mod GuardEditions
+pub mod MasksHoldBack

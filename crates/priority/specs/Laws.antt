@@ -1,5 +1,5 @@
 -- The execution priority is the least of what document 01 lists: one of those numbers, and at most each; the nest gives the same number. Of the eligible ones `best` answers the first by full priority, then number.
-use Prim.Native.Nat.{ℕ, zero, suc, _<_}
+use Prim.Native.Nat.{ℕ, zero, suc, _≤_, _<_}
 use mathlib.Core.Path.{_≡_, refl, sym, ap, subst, _∙_}
 use mathlib.Core.Logic.{_≢_, _⊎_, inl, inr, _↔_}
 use mathlib.Core.List.{List}
@@ -7,16 +7,17 @@ use mathlib.Core.Bool.{Bool, true, false, not, _&&_}
 use native.Mathlib.Nat.{le-refl, not-suc-le-zero}
 use native.Mathlib.Omega.{arith}
 use lib.ListN.{length, getD}
-use lib.Dec.{T, eqb, eqb→eq, eqb-refl, T-not, not-T}
+use lib.Dec.{T, eqb, eqb→eq, eqb-refl, T-not, not-T, le→leb}
 use lib.IntN.{ℤ, pos, negsuc}
 use lib.Signed.{ltZ, _≤ℤ_, _<ℤ_, leZ-yes, ltZ-yes, ltZ-no, ≤ℤ-refl, <ℤ-≤ℤ-trans, <ℤ-irrefl}
 use Rattle.priority.specs.declared.Found.{Found}
 use Rattle.priority.specs.declared.Found.the-variants.{At, Nothing}
 use Rattle.grouping.specs.Grouping.{groupOf, grouped, fullPriority, groupPriority}
+use Rattle.grouping.specs.Laws.{group-rises}
 use Rattle.priority.specs.Priority.{under, masked, leastActive, executionPriority, leastNested, executionNested, isEnabled, eligible, better, best, bestPending}
 use Rattle.bools.specs.Tests.{is-true, is-false, both, join, by-cases}
 use Rattle.bools.specs.Every.{below-suc}
-use Rattle.priority.specs.Order.{flag-below, <ℤ-≤ℤ, <ℤ-or-≡, Least, least-unique, least-same, With, least-under}
+use Rattle.priority.specs.Order.{flag-below, ≤ℤ-trans, <ℤ-≤ℤ, <ℤ-or-≡, Least, least-unique, least-same, With, least-under}
 
 -- no group number is below -2
 pub group-lowest : (p : ℕ) (bytes : List ℕ) (n : ℕ) → negsuc 1 ≤ℤ groupPriority p bytes n
@@ -153,6 +154,22 @@ module _ (p : ℕ) (bytes : List ℕ) where
         go (byBasepri ne e) = rw e (leZ-yes tt)
         go (byPrimask t e) = rw e (leZ-yes tt)
         go (byFaultmask t e) = rw e (leZ-yes tt)
+
+  -- PRIMASK and FAULTMASK set where they were, and BASEPRI, where it was not 0, neither 0 nor greater: the execution priority is no greater
+  pub more-masks : (active : List Bool) (basepri basepri′ : ℕ) (primask primask′ faultmask faultmask′ : Bool) → (T primask → T primask′) → (T faultmask → T faultmask′) → (basepri ≢ 0 → (basepri′ ≢ 0) × (basepri′ ≤ basepri)) → executionPriority p bytes active basepri′ primask′ faultmask′ ≤ℤ executionPriority p bytes active basepri primask faultmask
+  more-masks active basepri basepri′ primask primask′ faultmask faultmask′ pm fm bp = go (execution-least active basepri primask faultmask .one)
+    where
+      most : (z : ℤ) → Listed active basepri′ primask′ faultmask′ z → executionPriority p bytes active basepri′ primask′ faultmask′ ≤ℤ z
+      most = execution-least active basepri′ primask′ faultmask′ .most
+
+      go : {z : ℤ} → Listed active basepri primask faultmask z → executionPriority p bytes active basepri′ primask′ faultmask′ ≤ℤ z
+      go {z} (idle e) = most z (idle e)
+      go {z} (running n t e) = most z (running n t e)
+      go (byBasepri ne e) =
+          let l = bp ne in
+          rw e (≤ℤ-trans (most (pos (groupOf p basepri′)) (byBasepri (l .0) refl)) (leZ-yes (le→leb (groupOf p basepri′) (groupOf p basepri) (group-rises p basepri′ basepri (l .1)))))
+      go {z} (byPrimask t e) = most z (byPrimask (pm t) e)
+      go {z} (byFaultmask t e) = most z (byFaultmask (fm t) e)
 
 -- ---- the search for the best
 
