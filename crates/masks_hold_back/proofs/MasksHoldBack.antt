@@ -64,8 +64,8 @@ added m t e h =
 
 -- CONTROL as it was, and the three masks added to
 record Adds (k l : Masks) : Type 0 where
-  npriv : k .npriv ≡ l .npriv
-  spsel : k .spsel ≡ l .spsel
+  npriv : l .npriv ≡ k .npriv
+  spsel : l .spsel ≡ k .spsel
   more : Added k l
 
 adds-none : (k : Masks) → Adds k k
@@ -102,7 +102,7 @@ faultmask-adds k b negative t =
 adds-lowered : (m : Model) (l : Masks) → Adds (masks m) l → Lowered m (withMasks l m)
 adds-lowered m l h =
     added m (withMasks l m)
-    (λ i. withMasks (record { primask = l .primask; faultmask = l .faultmask; basepri = l .basepri; npriv = sym (h .npriv) i; spsel = sym (h .spsel) i }) m)
+    (λ i. withMasks (record { primask = l .primask; faultmask = l .faultmask; basepri = l .basepri; npriv = h .npriv i; spsel = h .spsel i }) m)
     (h .more)
 
 stays : (m : Model) → Lowered m m
