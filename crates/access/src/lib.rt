@@ -1,4 +1,6 @@
 // Access verdicts on the parts of a state that hold no list, for every chip.
+#![tactic(auto)]
+
 ghost use Rattle.std.specs.Prelude.{◌≡◌};
 ghost use Rattle.rules.specs.Model.{Model, with_core};
 ghost use Rattle.rules.specs.Lent.{answer};

@@ -1,4 +1,6 @@
 // The state by value of every chip that a setup names, and the calls on it. Each call hands back its answer with the next state.
+#![tactic(auto)]
+
 ghost use Rattle.std.specs.Prelude.{◌≡◌, ◌&&◌};
 ghost use Rattle.rules.specs.Chip.{chip_of, fits};
 ghost use Rattle.rules.specs.Model.{fresh, stack, depth_of, top};

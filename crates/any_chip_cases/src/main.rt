@@ -1,5 +1,7 @@
 // Worked cases of document 02, E1, E4, E5 and E7, run by call on the state of any chip, a labelled line for each: what must be printed was worked out
 // from documents 01 and 02. A case is a row of numbers, handed to a function that makes its state.
+#![tactic(auto)]
+
 mod idle;
 mod nesting;
 mod pulses;

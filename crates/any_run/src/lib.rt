@@ -1,4 +1,6 @@
 // A script run into lines on any chip that a setup names, a piece at a time.
+#![tactic(auto)]
+
 ghost use Rattle.std.specs.Prelude.{◌≡◌, List, ℕ};
 ghost use Rattle.rules.specs.Chip.{chip_of};
 ghost use Rattle.text.specs.Text.{text_of};

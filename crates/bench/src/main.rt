@@ -1,4 +1,6 @@
 // Runs the script on standard input and writes its text to standard output.
+#![tactic(auto)]
+
 use libc::{STDIN_FILENO, STDOUT_FILENO};
 
 // The buffer has room for a line, so each call ends the script or moves on in it.

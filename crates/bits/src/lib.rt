@@ -1,3 +1,5 @@
+#![tactic(auto)]
+
 ghost use Rattle.std.specs.Prelude.{true, false, ◌≡◌, ◌<◌, ◌≤◌};
 ghost use Rattle.bits.specs.Words.{bit, field, kept, bit_at, with_bit, without, byte_at, word_of_bytes};
 

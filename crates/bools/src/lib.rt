@@ -1,4 +1,6 @@
 // Tests: two of them as one, and what the proofs of every crate say about tests (specs/).
+#![tactic(auto)]
+
 ghost use Rattle.std.specs.Prelude.{◌≡◌, ◌&&◌};
 
 pub fn both(a: bool, b: bool) -> bool

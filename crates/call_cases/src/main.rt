@@ -1,5 +1,7 @@
 // Runs the commands of standard input on a state of the model, one to a line, and prints each with its answer. `stdin` says what they
 // are; `stdout` holds the values that document 01 gives.
+#![tactic(auto)]
+
 use command::Bench;
 use libc::STDIN_FILENO;
 use model::State;

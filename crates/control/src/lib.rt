@@ -1,4 +1,6 @@
 // INTCTRL, SYSHNDCTRL, APINT and SWTRIG: the registers of the system block that show or change flags.
+#![tactic(auto)]
+
 ghost use Rattle.std.specs.Prelude.{◌≡◌, ◌*◌, ◌^◌, ◌≤◌, ◌<◌};
 ghost use Rattle.bits.specs.Words.{bit};
 ghost use Rattle.flag_words.specs.Flags.{on};

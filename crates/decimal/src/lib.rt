@@ -1,5 +1,7 @@
 // Numbers as decimal text, and the two lines of `bench`, written into lent bytes from an offset.
 // Every call needs room for the longest text that it may write; its callers test the room first.
+#![tactic(auto)]
+
 ghost use Rattle.std.specs.Prelude.{◌≡◌, ◌+◌, ◌≤◌, length, nat_abs};
 ghost use Rattle.decimal.specs.Decimal.{digits, field, signed, line_text, broken_text, decimal_room, field_room, line_room, broken_room};
 ghost use Rattle.decimal.specs.Written.{Puts};

@@ -1,4 +1,6 @@
 // The verdict of either guard: the rules that both editions share, around what the regions of each allow. Those of PMSAv7 are in `verdicts`.
+#![tactic(auto)]
+
 ghost use Rattle.std.specs.Prelude.{◌≡◌};
 ghost use Rattle.editions.specs.Editions.{guard_allows, guard_permits, guard_verdict};
 

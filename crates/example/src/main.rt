@@ -1,4 +1,6 @@
 // The examples of README.md. Here line 0 of the chip with 55 lines is enabled, rises and is entered.
+#![tactic(auto)]
+
 use libc::STDOUT_FILENO;
 use model::State;
 

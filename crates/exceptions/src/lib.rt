@@ -1,4 +1,6 @@
 // How many flags and exceptions a chip has, which numbers are exceptions, and where a flag of each kind may stand.
+#![tactic(auto)]
+
 ghost use Rattle.std.specs.Prelude.{◌≡◌};
 ghost use Rattle.rules.specs.Chip.{flag_count, exception_count, is_in, configurable, is_line, exists, has_byte, has_enable, stands};
 

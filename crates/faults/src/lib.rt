@@ -1,4 +1,6 @@
 // Faults and SVC on lent lists, for every chip. `limit` is the execution priority.
+#![tactic(auto)]
+
 ghost use Rattle.std.specs.Prelude.{◌≡◌, not, ◌&&◌, ◌<◌};
 ghost use Rattle.rules.specs.Model.{Model, with_pending, with_enabled, with_priority, with_core};
 ghost use Rattle.rules.specs.Lent.{answer};

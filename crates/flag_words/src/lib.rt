@@ -1,4 +1,6 @@
 // Flags of a slice, 32 at a time as a word: read, set, cleared.
+#![tactic(auto)]
+
 ghost use Rattle.std.specs.Prelude.{◌||◌, ◌≡◌, min, ◌+◌, ◌<◌, ◌≤◌, length};
 ghost use Rattle.flag_words.specs.Flags.{flags_word, put_flag, put_flags, set_flags, clear_flags, any_flag};
 

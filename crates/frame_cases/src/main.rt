@@ -1,4 +1,6 @@
 // Document 01's frame cases and the edges of refusals 11 and 12, one line for each call: the refusal, then what is answered.
+#![tactic(auto)]
+
 use frame::Words;
 use libc::STDOUT_FILENO;
 

@@ -1,4 +1,6 @@
 // Full priorities and group numbers.
+#![tactic(auto)]
+
 ghost use Rattle.std.specs.Prelude.{◌≡◌, pos};
 ghost use Rattle.grouping.specs.Grouping.{kept_byte, group_of, grouped, full_priority, group_priority};
 

@@ -1,5 +1,7 @@
 // Worked cases of document 02, E12, run by call on the guard itself and on the state of any chip, a labelled line for each: what must be printed was worked
 // out from documents 01 and 02.
+#![tactic(auto)]
+
 mod calls;
 mod registers;
 mod show;

@@ -1,4 +1,6 @@
 // Any event on any lent lists, for every chip: one that does not fit is refused by 17, then a state that is not sound by 16.
+#![tactic(auto)]
+
 ghost use Rattle.std.specs.Prelude.{◌≡◌};
 ghost use Rattle.rules.specs.Lent.{model_of, answer};
 ghost use Rattle.rules.specs.Step.{step_of};

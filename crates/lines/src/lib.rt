@@ -1,4 +1,6 @@
 // Lines, NMI and SysTick on lent lists, for every chip.
+#![tactic(auto)]
+
 ghost use Rattle.std.specs.Prelude.{◌≡◌};
 ghost use Rattle.rules.specs.Model.{Model, with_pending, with_level, with_lost, with_core};
 ghost use Rattle.rules.specs.Lent.{answer};

@@ -1,4 +1,6 @@
 // The register map: the register at an address, and the widths that it takes.
+#![tactic(auto)]
+
 ghost use Rattle.std.specs.Prelude.{◌≡◌, cond, ◌&&◌, ◌||◌, eqb, ◌+◌, ◌-◌, ◌^◌, ◌<◌, ◌≤◌};
 ghost use Rattle.mpu.specs.Editions.{guard_register_at};
 ghost use Rattle.rules.specs.declared.Register.TheVariants.{Flags, Priority};

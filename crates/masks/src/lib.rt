@@ -1,4 +1,6 @@
 // The masks and CONTROL: a special register written, and what entry and return do to them.
+#![tactic(auto)]
+
 ghost use Rattle.std.specs.Prelude.{◌≡◌};
 ghost use Rattle.rules.specs.Events.{with_primask, with_basepri, faultmask_written, basepri_raised, control_written, special_written};
 ghost use Rattle.rules.specs.Nesting.{with_spsel, returned_masks};

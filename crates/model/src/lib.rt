@@ -1,4 +1,6 @@
 // The state by value of the chip with 55 lines, and the calls on it. Each call hands back its answer with the next state.
+#![tactic(auto)]
+
 ghost use Rattle.std.specs.Prelude.{◌≡◌};
 ghost use Rattle.rules.specs.Chip.{chip55};
 ghost use Rattle.rules.specs.Model.{fresh, stack, depth_of, top};

@@ -1,4 +1,6 @@
 // The MPU, a guard of eight regions, in two editions, and its registers. What it allows is in `verdicts` and `editions`.
+#![tactic(auto)]
+
 ghost use Rattle.std.specs.Prelude.{◌≡◌, length, get_or, set};
 ghost use Rattle.bools.specs.Every.{every};
 ghost use Rattle.mpu.specs.Registers.{fresh_mpu, mpu_register_at, kept_base, kept_attributes, read_mpu, with_control, write_number, with_base, write_base, with_attributes, write_mpu};

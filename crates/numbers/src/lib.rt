@@ -1,4 +1,6 @@
 // Numbers of a script: groups of seven bits, lowest first, bit 7 set where more follow.
+#![tactic(auto)]
+
 ghost use Rattle.std.specs.Prelude.{◌≡◌, [], ◌∷◌, ◌+◌, ◌<◌, ◌≤◌, length, get_or};
 ghost use Rattle.std.proofs.lemmas.List.Edits.{sets};
 ghost use Rattle.numbers.specs.Answers.{number_answer};

@@ -1,4 +1,6 @@
 // A script run into lines, a piece at a time: the course of a script, and the steps of a call that need no list of the state changed.
+#![tactic(auto)]
+
 ghost use Rattle.std.specs.Prelude.{◌≡◌, List, ℕ, ◌≤◌, ◌+◌, length};
 ghost use Rattle.decimal.specs.Decimal.{line_room};
 ghost use Rattle.rules.specs.declared.Chip.{Chip};

@@ -1,6 +1,8 @@
 // How many places of a state's arrays are lent as a chip's lists: the chip's own, or all where something stands past those. What is past them is
 // looked at in blocks of 64 places with no early end, which are compiled to look at many places at a time; the last block may overlap the one
 // before it.
+#![tactic(auto)]
+
 ghost use Rattle.std.specs.Prelude.{◌≡◌, cond, ◌||◌, ◌-◌, ◌≤◌};
 ghost use Rattle.places.specs.Places.{some_past, nonzero, occupied, InBlocks, Blocks, reach_of};
 

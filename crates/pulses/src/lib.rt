@@ -1,4 +1,6 @@
 // The pulses that a line loses, on lent lists, for every chip: rises that find it pending (document 02, E1).
+#![tactic(auto)]
+
 ghost use Rattle.std.specs.Prelude.{◌≡◌, suc, min, get_or};
 ghost use Rattle.rules.specs.Model.{Model, with_pending, with_level, with_lost, with_core};
 ghost use Rattle.rules.specs.Lent.{answer};

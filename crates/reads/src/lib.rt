@@ -1,4 +1,6 @@
 // Register reads on lent lists, for every chip: what each register reads, and what a read leaves.
+#![tactic(auto)]
+
 ghost use Rattle.std.specs.Prelude.{◌≡◌, ◌-◌, ◌/◌, ◌<◌};
 ghost use Rattle.rules.specs.Model.{Model, down, top, with_pending, with_active, with_enabled, with_priority, with_nest, with_core};
 ghost use Rattle.rules.specs.Lent.{answer};

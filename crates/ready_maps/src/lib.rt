@@ -1,5 +1,7 @@
 // Ready maps: a bit map of pending, enabled exceptions for each priority, in words that the caller lends, and the search that counts
 // trailing zero bits.
+#![tactic(auto)]
+
 ghost use Rattle.std.specs.Prelude.{◌≡◌, ◌+◌, ◌-◌, ◌*◌, ◌/◌, ◌^◌, ◌<◌, ◌≤◌, length, get_or, set, replicate};
 ghost use Rattle.bits.specs.Words.{with_bit};
 ghost use Rattle.priority.specs.First.{is_ready, if_below};

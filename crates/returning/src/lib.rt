@@ -1,4 +1,6 @@
 // Exception return on lent lists, for every chip.
+#![tactic(auto)]
+
 ghost use Rattle.std.specs.Prelude.{◌≡◌, true, cond, ◌<◌, set};
 ghost use Rattle.rules.specs.Model.{Model, with_pending, with_active, with_level, with_nest, with_core};
 ghost use Rattle.rules.specs.Lent.{answer};

@@ -1,5 +1,7 @@
 // What the rules and the code of every chip share: the chip itself, the parts of the state that hold no array, and the names of the
 // registers.
+#![tactic(auto)]
+
 ghost use Rattle.std.specs.Prelude.{◌≡◌};
 ghost use Rattle.rules.specs.Chip.{chip_of, is_armv6m, fits};
 

@@ -1,5 +1,7 @@
 // Runs of a script by call on a setup that keeps so many bits, a labelled line for each with what the run writes after it: the refusal, and whether
 // the script has ended. What must be printed was worked out from documents 01 and 02.
+#![tactic(auto)]
+
 use libc::STDOUT_FILENO;
 use mpu::Edition;
 use rules::{Part, Setup};

@@ -1,4 +1,6 @@
 // A script run into lines on lent lists, a piece at a time, for every chip.
+#![tactic(auto)]
+
 ghost use Rattle.std.specs.Prelude.{◌≡◌};
 ghost use Rattle.rules.specs.Lent.{model_of};
 ghost use Rattle.guarded.specs.FewLines.{FewLines};

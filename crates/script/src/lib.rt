@@ -1,4 +1,6 @@
 // Scripts (documents 01 and 02): the events that a script holds, one event read and one written.
+#![tactic(auto)]
+
 ghost use Rattle.std.specs.Prelude.{◌≡◌};
 ghost use Rattle.script.specs.Event.{access_number, access_kind, arity};
 

@@ -1,4 +1,6 @@
 // Scripts at their edges: each line of `stdout` was worked out by hand from document 01.
+#![tactic(auto)]
+
 use libc::STDOUT_FILENO;
 use numbers::Number;
 use script::{AccessKind, Event, ReadEvent, Written};

@@ -1,4 +1,6 @@
 // The words after a program's name that name a setup.
+#![tactic(auto)]
+
 ghost use Rattle.std.specs.Prelude.{◌≡◌, cond, ◌-◌};
 ghost use Rattle.setup_words.specs.Words.{is_same, is_digit, are_digits, is_number, with_digit, number_from, started, mistaken, with_lines, with_part, keeping, guarded_by, with_core, core_by, lines_by, bits_by, guard_by, paired};
 

@@ -1,4 +1,6 @@
 // Runs the script on standard input on the chip that the words after the program's name name, and writes its text to standard output.
+#![tactic(auto)]
+
 use libc::{STDIN_FILENO, STDOUT_FILENO};
 use rules::Setup;
 

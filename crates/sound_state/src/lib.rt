@@ -1,4 +1,6 @@
 // A whole state on lent lists, for every chip: the test of refusal 16, and the execution priority of a state that passes it.
+#![tactic(auto)]
+
 ghost use Rattle.std.specs.Prelude.{◌≡◌, ◌&&◌, ◌≤◌, length, ltb, eqb};
 ghost use Rattle.grouping.specs.Grouping.{kept_byte};
 ghost use Rattle.priority.specs.Priority.{execution_nested};

@@ -1,4 +1,6 @@
 // The test of refusal 16 on the arrays of a state: flags, priority bytes and the nest, of any chip.
+#![tactic(auto)]
+
 mod bytes;
 mod flags;
 mod nest;

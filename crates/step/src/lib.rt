@@ -1,5 +1,7 @@
 // Any event on lent lists, for every chip. What an event leaves is sound again (`act-sound` of `demand3`), so a run of many events
 // tests its state once.
+#![tactic(auto)]
+
 ghost use Rattle.std.specs.Prelude.{◌≡◌};
 ghost use Rattle.rules.specs.Lent.{model_of, answer};
 ghost use Rattle.rules.specs.Step.{act_of};

@@ -1,4 +1,6 @@
 // SysTick: a 24-bit counter that falls by one a tick, and its registers STCTRL, STRELOAD and STCURRENT.
+#![tactic(auto)]
+
 ghost use Rattle.std.specs.Prelude.{◌≡◌, true};
 ghost use Rattle.systick.specs.Skip.{skip_of};
 ghost use Rattle.systick.specs.ClosedForm.{from_zero, falls_in, leaving};

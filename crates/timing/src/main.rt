@@ -1,5 +1,7 @@
 // Runs the script on standard input through the library 100 times, and prints no lines but the sum of all refusals and values: what
 // `tools/speed` times beside the plain version. Every event is a public call, soundness test included.
+#![tactic(auto)]
+
 use libc::{STDIN_FILENO, STDOUT_FILENO};
 use model::State;
 use script::ReadEvent;

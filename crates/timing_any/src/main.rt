@@ -1,6 +1,8 @@
 // As `timing`, on the state of the chip that the words after its name name: the sum of all refusals and values of 100 runs of the script on
 // standard input, every event a public call. A program of its own: in one program with both, the code that they share is no longer compiled
 // for the 55 lines of `model`, whose calls then take half as long again.
+#![tactic(auto)]
+
 use any_chip::State;
 use libc::{STDIN_FILENO, STDOUT_FILENO};
 use rules::Setup;

@@ -1,6 +1,8 @@
 // Runs each script that the arguments name through the library and compares its text with the file named after it.
 // Says of each vector that differs which line is the first to differ, and at the end how many agree.
 // Vectors run on the 55-line chip of `run`, and after setup words and their values on the chip that these name, until other words come.
+#![tactic(auto)]
+
 ghost use Rattle.std.specs.Prelude.{◌≡◌, ◌+◌, ◌^◌, ◌<◌, ◌≤◌, length};
 ghost use Rattle.io.specs.Counts.{IsPrefixLen};
 ghost use Rattle.rules.specs.Chip.{chip55, chip_of};

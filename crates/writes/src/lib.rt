@@ -1,4 +1,6 @@
 // Register writes on lent lists, for every chip.
+#![tactic(auto)]
+
 ghost use Rattle.std.specs.Prelude.{◌≡◌, ◌||◌, ◌<◌};
 ghost use Rattle.rules.specs.Model.{Model, with_pending, with_active, with_enabled, with_level, with_priority, with_core, with_system};
 ghost use Rattle.rules.specs.Lent.{answer};
