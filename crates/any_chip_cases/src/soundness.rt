@@ -9,7 +9,7 @@ use rules::Part;
 use script::Event;
 
 // The lists of a state.
-#[derive(Drop)]
+#[derive(Clone, Copy)]
 enum Field {
     Pending,
     Active,

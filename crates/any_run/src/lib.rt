@@ -13,7 +13,7 @@ use rules::Setup;
 // How far a script has run: the state after `events` events, the offset of the next, whether the script has ended, how many bytes of the
 // buffer the last call wrote, and 17 or 16 where it was refused: the setup keeps no 3 to 8 bits of a priority byte; the state is not sound, or no
 // script has so many events in so many bytes.
-#[derive(Drop)]
+#[derive(Clone, Copy)]
 pub struct Progress {
     pub state: State,
     pub at: usize,

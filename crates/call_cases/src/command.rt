@@ -7,14 +7,14 @@ use model::{Reply, State};
 use script::{AccessKind, Event};
 
 // The state, and the one that `keep` put aside.
-#[derive(Drop)]
+#[derive(Clone, Copy)]
 pub struct Bench {
     pub state: State,
     pub kept: State,
 }
 
 // The first words of a line: the command's name, and three numbers; the second word may be a field's name.
-#[derive(Drop)]
+#[derive(Clone, Copy)]
 struct Command {
     quiet: bool,
     name: u32,

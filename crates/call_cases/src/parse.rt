@@ -2,7 +2,7 @@
 ghost use Rattle.std.specs.Prelude.{◌≤◌, ◌<◌, length};
 
 // A word, as its first four letters and as a number: decimal, or hexadecimal after 0x with the digits A to F.
-#[derive(Drop)]
+#[derive(Clone, Copy)]
 pub struct Word {
     pub name: u32,
     pub hex: bool,
@@ -10,7 +10,7 @@ pub struct Word {
 }
 
 // A word and the place after it.
-#[derive(Drop)]
+#[derive(Clone, Copy)]
 pub struct Found {
     pub word: Word,
     pub next: usize,

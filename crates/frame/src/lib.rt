@@ -6,7 +6,7 @@ ghost use Rattle.bits.specs.Words.{with_bit};
 ghost use Rattle.frame.specs.Frame.{window_fits, holds_frame, padded, frame_at, stored_words, stack_fits, refusal_of, stacked, listed, word_bytes, frame_bytes, stacked_window, word_at, words_at, restored_sp, unstack_fits, no_words, unstacked};
 
 // The words of an exception frame, in the order of their addresses; pc is the return address.
-#[derive(Drop)]
+#[derive(Clone, Copy)]
 pub struct Words {
     pub r0: u32,
     pub r1: u32,
@@ -19,14 +19,14 @@ pub struct Words {
 }
 
 // The refusal, or 0 and the frame's address.
-#[derive(Drop)]
+#[derive(Clone, Copy)]
 pub struct Stacked {
     pub refusal: u32,
     pub frame: u32,
 }
 
 // The refusal, or 0, the restored SP and the words as stored.
-#[derive(Drop)]
+#[derive(Clone, Copy)]
 pub struct Unstacked {
     pub refusal: u32,
     pub sp: u32,

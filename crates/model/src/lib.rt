@@ -15,7 +15,7 @@ pub mod calls;
 
 // Flags and priority bytes stand at exception numbers; the nest holds the active exceptions, the newest last; `lost` counts the rises that
 // each line lost. `core` has the nest's depth and every part that holds no array of the chip's size.
-#[derive(Drop)]
+#[derive(Clone, Copy)]
 pub struct State {
     pub pending: [bool; 71],
     pub active: [bool; 71],
@@ -28,7 +28,7 @@ pub struct State {
 }
 
 // An answer: the refusal or 0, the value, the vector address and link value of an entry, and the next state.
-#[derive(Drop)]
+#[derive(Clone, Copy)]
 pub struct Reply {
     pub refusal: u32,
     pub value: u32,

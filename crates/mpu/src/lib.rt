@@ -15,7 +15,7 @@ use pmsav8::{kept_rlar, region_of};
 mod pmsav8;
 
 // Which guard it is: ARMv7-M's, which document 01 describes, or ARMv8-M's (document 02, E12).
-#[derive(Drop)]
+#[derive(Clone, Copy)]
 pub enum Edition {
     Pmsav7,
     Pmsav8,
@@ -23,7 +23,7 @@ pub enum Edition {
 
 // The registers' words. A region has two: in PMSAv7 a base, without its low five bits, and attributes; in PMSAv8 RBAR, where the base
 // stands, and RLAR, where the attributes stand. MAIR0 and MAIR1 are PMSAv8's, and 0 in PMSAv7.
-#[derive(Drop)]
+#[derive(Clone, Copy)]
 pub struct Mpu {
     pub control: u32,
     pub region: u32,
@@ -34,7 +34,7 @@ pub struct Mpu {
 }
 
 // Kind is the type register at ED90; Missing is no register. Rbar and Rlar have the number of their pair, 0 to 3.
-#[derive(Drop)]
+#[derive(Clone, Copy)]
 pub enum MpuRegister {
     Kind,
     Control,

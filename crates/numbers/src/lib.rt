@@ -8,7 +8,7 @@ ghost use Rattle.numbers.specs.Number.{groups, number_at};
 ghost use Rattle.numbers.specs.Window.{joined_word, groups_of};
 
 // A number and the offset after it, or one that is cut short, too large or not in its shortest form.
-#[derive(Drop)]
+#[derive(Clone, Copy)]
 pub enum Number {
     Value(u32, usize),
     Bad,

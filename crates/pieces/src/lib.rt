@@ -13,7 +13,7 @@ use rules::{Chip, Core, Outcome};
 
 // How far a script has run, beside the lists of the state: its other parts after `events` events, the offset of the next, whether the
 // script has ended, how many bytes of the buffer the last call wrote, and 17 or 16 where it was refused.
-#[derive(Drop)]
+#[derive(Clone, Copy)]
 pub struct Course {
     pub core: Core,
     pub at: usize,
@@ -24,7 +24,7 @@ pub struct Course {
 }
 
 // A line that is written: the execution priority that it prints, and where the next line starts.
-#[derive(Drop)]
+#[derive(Clone, Copy)]
 pub struct Line {
     pub limit: i32,
     pub end: usize,

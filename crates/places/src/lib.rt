@@ -9,7 +9,7 @@ ghost use Rattle.places.specs.Places.{some_past, nonzero, occupied, InBlocks, Bl
 use rules::Chip;
 
 // Of the arrays at exception numbers, of the nest, and of the counts of lost rises.
-#[derive(Drop)]
+#[derive(Clone, Copy)]
 pub struct Reach {
     pub places: usize,
     pub nest: usize,

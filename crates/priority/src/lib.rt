@@ -7,7 +7,7 @@ ghost use Rattle.priority.specs.Priority.{lesser, under, masked, least_active, e
 
 use grouping::{full_priority, group_priority, grouped, signed};
 
-#[derive(Drop)]
+#[derive(Clone, Copy)]
 pub enum Found {
     At(usize),
     Nothing,

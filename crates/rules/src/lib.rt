@@ -10,14 +10,14 @@ use mpu::{Edition, Mpu, MpuRegister};
 use systick::Timer;
 
 // The architecture of the core: document 01's, or that of the Cortex-M0 (document 02, E10), which has less.
-#[derive(Drop)]
+#[derive(Clone, Copy)]
 pub enum Profile {
     Armv7m,
     Armv6m,
 }
 
 // A chip: its profile, which guard it has (ARMv6-M has none, whatever stands there), how many lines, and how many bits of a priority byte it keeps.
-#[derive(Drop)]
+#[derive(Clone, Copy)]
 pub struct Chip {
     pub profile: Profile,
     pub guard: Edition,
@@ -26,7 +26,7 @@ pub struct Chip {
 }
 
 // The chips that there are: a Cortex-M3 with 55 lines (document 01) or with 240 (document 02, E4), the Cortex-M0 with 32 (E10).
-#[derive(Drop)]
+#[derive(Clone, Copy)]
 pub enum Part {
     Lines55,
     Lines240,
@@ -36,7 +36,7 @@ pub enum Part {
 // How a caller names a chip: `chip_of` of the rules. `bits` is how many bits of a priority byte are kept (CMSIS calls it __NVIC_PRIO_BITS): any
 // number may stand there, and outside 3 to 8 every call refuses it by 17. `guard` is the edition of its MPU. The Cortex-M0 keeps two bits and has no
 // MPU, whatever stands there.
-#[derive(Drop)]
+#[derive(Clone, Copy)]
 pub struct Setup {
     pub part: Part,
     pub bits: u32,
@@ -96,7 +96,7 @@ impl Setup {
 }
 
 // Where a flag may stand: at any exception, at those with an enable bit of their own, at the lines.
-#[derive(Drop)]
+#[derive(Clone, Copy)]
 pub enum Place {
     Exception,
     Enable,
@@ -104,7 +104,7 @@ pub enum Place {
 }
 
 // The masks and CONTROL. `npriv` is CONTROL bit 0, `spsel` bit 1.
-#[derive(Drop)]
+#[derive(Clone, Copy)]
 pub struct Masks {
     pub primask: bool,
     pub faultmask: bool,
@@ -114,7 +114,7 @@ pub struct Masks {
 }
 
 // The registers of the system block that are plain storage.
-#[derive(Drop)]
+#[derive(Clone, Copy)]
 pub struct System {
     pub vtable: u32,
     pub sysctrl: u32,
@@ -126,7 +126,7 @@ pub struct System {
 }
 
 // The parts of a state that hold no array of the chip's size: the same struct for every chip.
-#[derive(Drop)]
+#[derive(Clone, Copy)]
 pub struct Core {
     pub depth: usize,
     pub group: u32,
@@ -138,7 +138,7 @@ pub struct Core {
 
 // What a call answers beside the lists that it was lent: the refusal or 0, the value, the vector address and link value of an
 // entry, and the other parts as it leaves them.
-#[derive(Drop)]
+#[derive(Clone, Copy)]
 pub struct Outcome {
     pub refusal: u32,
     pub value: u32,
@@ -147,7 +147,7 @@ pub struct Outcome {
     pub core: Core,
 }
 
-#[derive(Drop)]
+#[derive(Clone, Copy)]
 pub enum TimerRegister {
     Stctrl,
     Streload,
@@ -155,7 +155,7 @@ pub enum TimerRegister {
 }
 
 // The registers that show a flag of each of 32 lines.
-#[derive(Drop)]
+#[derive(Clone, Copy)]
 pub enum Bank {
     EnableSet,
     EnableClear,
@@ -164,7 +164,7 @@ pub enum Bank {
     Active,
 }
 
-#[derive(Drop)]
+#[derive(Clone, Copy)]
 pub enum SystemRegister {
     Ictype,
     Cpuid,
@@ -183,7 +183,7 @@ pub enum SystemRegister {
 
 // A register, by the part of the model that it shows. Flags and priority bytes carry the number of the first exception shown. A constant reads as
 // its number and ignores writes.
-#[derive(Drop)]
+#[derive(Clone, Copy)]
 pub enum Register {
     Missing,
     Timer(TimerRegister),

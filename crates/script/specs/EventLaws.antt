@@ -37,7 +37,7 @@ numbers_written (n ∷ ns) pre post w =
     let ih = simp (append_assoc, length-append) at (numbers_written ns (pre ++ number_bytes n) post w.1) in
     let one = number_written n pre (numbers_bytes ns ++ post) w.0 in
     let sum : length pre + length (number_bytes n) + length (numbers_bytes ns) ≡ length pre + (length (number_bytes n) + length (numbers_bytes ns)) = omega arith in
-    simp (append_assoc, length-append, one, ih, sum)
+    simp (append_assoc, length-append, one) (simp (append_assoc, length-append, ih, sum))
 
 -- an event as numbers: its kind is one, has as many arguments as the event, and with them makes the event again
 record Numbered (e : Event) (next : ℕ) : Type 0 where

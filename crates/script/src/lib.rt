@@ -11,7 +11,7 @@ pub use reading::read_event;
 pub use writing::write_event;
 
 // What an access event asks for. `Other(n)` with n at most 2 means the kind of that number.
-#[derive(Drop)]
+#[derive(Clone, Copy)]
 pub enum AccessKind {
     Read,
     Write,
@@ -20,7 +20,7 @@ pub enum AccessKind {
 }
 
 // Arguments stand in a script's order: widths before addresses, addresses before values.
-#[derive(Drop)]
+#[derive(Clone, Copy)]
 pub enum Event {
     Read(u32, u32),
     Write(u32, u32, u32),
@@ -38,14 +38,14 @@ pub enum Event {
 }
 
 // An event and the offset after it, or the number of the refusal.
-#[derive(Drop)]
+#[derive(Clone, Copy)]
 pub enum ReadEvent {
     Found(Event, usize),
     Refused(u32),
 }
 
 // The offset after what was written, or the number of the refusal.
-#[derive(Drop)]
+#[derive(Clone, Copy)]
 pub enum Written {
     Next(usize),
     Refused(u32),

@@ -10,7 +10,7 @@ use crate::{Event, Written, access_number};
 use numbers::{size, write_groups};
 
 // The kind of an event and three arguments, 0 where its kind has fewer.
-#[derive(Drop)]
+#[derive(Clone, Copy)]
 struct Spelled(u32, u32, u32, u32);
 
 fn numbers_of(e: Event) -> Spelled

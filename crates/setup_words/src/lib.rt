@@ -8,7 +8,7 @@ use mpu::Edition;
 use rules::{Part, Setup};
 
 // The setup named so far, which words named it, and whether one of the words or values was wrong.
-#[derive(Drop)]
+#[derive(Clone, Copy)]
 pub struct Words {
     pub setup: Setup,
     pub core: bool,

@@ -6,7 +6,7 @@ ghost use Rattle.systick.specs.Skip.{skip_of};
 ghost use Rattle.systick.specs.ClosedForm.{from_zero, falls_in, leaving};
 ghost use Rattle.systick.specs.Timer.{fresh_timer, steady, tick_of, read_control, read_reload, read_current, write_control, write_reload, write_current, sound_timer};
 
-#[derive(Drop)]
+#[derive(Clone, Copy)]
 pub struct Timer {
     // STCTRL bits 2:0: counting, TICKINT, and the clock's source, which has no effect here.
     pub control: u32,
@@ -16,7 +16,7 @@ pub struct Timer {
     pub count: bool,
 }
 
-#[derive(Drop)]
+#[derive(Clone, Copy)]
 pub struct Ticked {
     pub timer: Timer,
     // The current value fell to 0.
@@ -25,7 +25,7 @@ pub struct Ticked {
     pub pends: bool,
 }
 
-#[derive(Drop)]
+#[derive(Clone, Copy)]
 pub struct TimerRead {
     pub value: u32,
     pub timer: Timer,

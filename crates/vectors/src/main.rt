@@ -15,7 +15,7 @@ use rules::Setup;
 use setup_words::Words;
 
 // What a vector runs on.
-#[derive(Drop)]
+#[derive(Clone, Copy)]
 enum Way {
     Run,
     AnyRun(Setup),

@@ -1,0 +1,10 @@
+-- By what is stored; a word keeps all its bits.
+use mathlib.Core.Path.{sym}
+use Rattle.mpu.specs.Pmsav8.{with_mair1}
+use Rattle.mpu.specs.Laws.{word_kept}
+use borrow.Author.Rules.{rules}
+use Rattle.mpu.proofs.Mpu.with_mair1.Goals as goal
+
+pub returns : goal.returns
+unfolding with_mair1
+returns c = simp (sym (word_kept c.args.x (search rules)))

@@ -1,0 +1,16 @@
+-- The loop has tested the words passed; the measure is what is left of them.
+use Prim.Native.Nat.{◌-◌}
+use mathlib.Core.Path.{◌∙◌, refl}
+use native.Mathlib.Numerals.{add-one}
+use native.Mathlib.Omega.{arith}
+use Rattle.bools.specs.Every.{every}
+use Rattle.mpu.specs.Unused.{zero_at}
+use Rattle.mpu.proofs.all_clear.Goals as goal
+
+pub loop-i-init : goal.loop-i-init
+unfolding every
+loop-i-init c = (omega arith, refl)
+
+pub loop-i-preserved : goal.loop-i-preserved
+unfolding every zero_at
+loop-i-preserved c = (omega arith, c.both-ok.ensures ∙ simp (add-one, c.loop-i.invariant.1))

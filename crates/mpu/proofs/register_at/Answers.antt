@@ -1,0 +1,66 @@
+-- Each arm by its offset; the last by all that it is not.
+use mathlib.Core.Path.{sym, ap}
+use borrow.Author.Tests.{ne_eqb}
+use Rattle.mpu.specs.Registers.{mpu_register_at}
+use Rattle.std.proofs.Common.{◌-◌}
+use Rattle.mpu.proofs.register_at.Goals as goal
+
+pub returns-in-0 : goal.returns-in-0
+unfolding mpu_register_at
+returns-in-0 c = sym (ap mpu_register_at c.in-0.is)
+
+pub returns-in-4 : goal.returns-in-4
+unfolding mpu_register_at
+returns-in-4 c = sym (ap mpu_register_at c.in-4.is)
+
+pub returns-in-8 : goal.returns-in-8
+unfolding mpu_register_at
+returns-in-8 c = sym (ap mpu_register_at c.in-8.is)
+
+pub returns-in-12 : goal.returns-in-12
+unfolding mpu_register_at
+returns-in-12 c = sym (ap mpu_register_at c.in-12.is)
+
+pub returns-in-16 : goal.returns-in-16
+unfolding mpu_register_at
+returns-in-16 c = sym (ap mpu_register_at c.in-16.is)
+
+pub returns-in-20 : goal.returns-in-20
+unfolding mpu_register_at
+returns-in-20 c = sym (ap mpu_register_at c.in-20.is)
+
+pub returns-in-24 : goal.returns-in-24
+unfolding mpu_register_at
+returns-in-24 c = sym (ap mpu_register_at c.in-24.is)
+
+pub returns-in-28 : goal.returns-in-28
+unfolding mpu_register_at
+returns-in-28 c = sym (ap mpu_register_at c.in-28.is)
+
+pub returns-in-32 : goal.returns-in-32
+unfolding mpu_register_at
+returns-in-32 c = sym (ap mpu_register_at c.in-32.is)
+
+pub returns-in-36 : goal.returns-in-36
+unfolding mpu_register_at
+returns-in-36 c = sym (ap mpu_register_at c.in-36.is)
+
+pub returns-in-40 : goal.returns-in-40
+unfolding mpu_register_at
+returns-in-40 c = sym (ap mpu_register_at c.in-40.is)
+
+pub returns-in_default : goal.returns-in_default
+unfolding mpu_register_at
+returns-in_default c = simp (
+  ne_eqb _ _ c.in_default.in_default-own.rest.1,
+  ne_eqb _ _ c.in_default.in_default-own.rest.0.1,
+  ne_eqb _ _ c.in_default.in_default-own.rest.0.0.1,
+  ne_eqb _ _ c.in_default.in_default-own.rest.0.0.0.1,
+  ne_eqb _ _ c.in_default.in_default-own.rest.0.0.0.0.1,
+  ne_eqb _ _ c.in_default.in_default-own.rest.0.0.0.0.0.1,
+  ne_eqb _ _ c.in_default.in_default-own.rest.0.0.0.0.0.0.1,
+  ne_eqb _ _ c.in_default.in_default-own.rest.0.0.0.0.0.0.0.1,
+  ne_eqb _ _ c.in_default.in_default-own.rest.0.0.0.0.0.0.0.0.1,
+  ne_eqb _ _ c.in_default.in_default-own.rest.0.0.0.0.0.0.0.0.0.1,
+  ne_eqb _ _ c.in_default.in_default-own.rest.0.0.0.0.0.0.0.0.0.0.1,
+)
