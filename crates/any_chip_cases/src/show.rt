@@ -1,7 +1,8 @@
 // A line of output: the chip, a label, a colon, and what the case came to.
 use any_chip::{Reply, State};
-use libc::STDOUT_FILENO;
 use rules::Setup;
+
+const STDOUT_FILENO: i32 = 1;
 
 pub fn text(bytes: &[u8]) {
     io::write_all(STDOUT_FILENO, bytes);

@@ -1,7 +1,9 @@
 // Runs the script on standard input and writes its text to standard output.
 #![tactic(auto)]
 
-use libc::{STDIN_FILENO, STDOUT_FILENO};
+const STDIN_FILENO: i32 = 0;
+const STDOUT_FILENO: i32 = 1;
+
 
 // The buffer has room for a line, so each call ends the script or moves on in it.
 fn run_all(script: &[u8]) {

@@ -3,7 +3,6 @@
 #![tactic(auto)]
 
 use command::Bench;
-use libc::STDIN_FILENO;
 use model::State;
 
 mod command;
@@ -12,6 +11,8 @@ mod pieces;
 mod poke;
 mod same;
 mod show;
+
+const STDIN_FILENO: i32 = 0;
 
 fn run(text: &[u8]) {
     let mut bench = Bench {

@@ -1,8 +1,9 @@
 // What a command prints: its line, a colon, the answer.
 use super::same::{same_reply, same_state};
-use libc::STDOUT_FILENO;
 use model::{Reply, State};
 use run::Progress;
+
+const STDOUT_FILENO: i32 = 1;
 
 fn text(bytes: &[u8]) {
     io::write_all(STDOUT_FILENO, bytes);

@@ -1,6 +1,7 @@
 // A line of output: a label, a colon, numbers.
 use any_chip::Reply;
-use libc::STDOUT_FILENO;
+
+const STDOUT_FILENO: i32 = 1;
 
 pub fn text(bytes: &[u8]) {
     io::write_all(STDOUT_FILENO, bytes);

@@ -1,10 +1,11 @@
 // The examples of README.md. Here line 0 of the chip with 55 lines is enabled, rises and is entered.
 #![tactic(auto)]
 
-use libc::STDOUT_FILENO;
 use model::State;
 
 mod named;
+
+const STDOUT_FILENO: i32 = 1;
 
 fn number(n: u32) {
     io::print_decimal(STDOUT_FILENO, n as u64);

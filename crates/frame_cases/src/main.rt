@@ -2,7 +2,8 @@
 #![tactic(auto)]
 
 use frame::Words;
-use libc::STDOUT_FILENO;
+
+const STDOUT_FILENO: i32 = 1;
 
 fn number(n: u32) {
     io::print_decimal(STDOUT_FILENO, n as u64);

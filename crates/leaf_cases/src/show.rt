@@ -1,5 +1,6 @@
 // A line of output: a label, a colon, two or four numbers.
-use libc::STDOUT_FILENO;
+
+const STDOUT_FILENO: i32 = 1;
 
 fn text(bytes: &[u8]) {
     io::write_all(STDOUT_FILENO, bytes);

@@ -2,9 +2,10 @@
 // the script has ended. What must be printed was worked out from documents 01 and 02.
 #![tactic(auto)]
 
-use libc::STDOUT_FILENO;
 use mpu::Edition;
 use rules::{Part, Setup};
+
+const STDOUT_FILENO: i32 = 1;
 
 fn text(bytes: &[u8]) {
     io::write_all(STDOUT_FILENO, bytes);

@@ -34,10 +34,14 @@ numbers_written : (ns pre post : List ℕ) → Words ns → numbers_at (pre ++ (
 unfolding numbers_at then before numbers_bytes Words
 numbers_written [] pre post w = let e : length pre + 0 ≡ length pre = omega arith in simp e
 numbers_written (n ∷ ns) pre post w =
-    let ih = simp (append_assoc, length-append) at (numbers_written ns (pre ++ number_bytes n) post w.1) in
+    let all = pre ++ (number_bytes n ++ (numbers_bytes ns ++ post)) in
+    let same : pre ++ ((number_bytes n ++ numbers_bytes ns) ++ post) ≡ all = simp append_assoc in
     let one = number_written n pre (numbers_bytes ns ++ post) w.0 in
-    let sum : length pre + length (number_bytes n) + length (numbers_bytes ns) ≡ length pre + (length (number_bytes n) + length (numbers_bytes ns)) = omega arith in
-    simp (append_assoc, length-append, one) (simp (append_assoc, length-append, ih, sum))
+    let ih : numbers_at all (length pre + length (number_bytes n)) (length ns) ≡ numbers ns (length pre + length (number_bytes n) + length (numbers_bytes ns)) =
+        simp (append_assoc, length-append) at (numbers_written ns (pre ++ number_bytes n) post w.1) in
+    let sum : length pre + length (number_bytes n) + length (numbers_bytes ns) ≡ length pre + length (number_bytes n ++ numbers_bytes ns) = simp length-append (omega arith) in
+    subst (λ (b : List ℕ). numbers_at b (length pre) (suc (length ns)) ≡ numbers (n ∷ ns) (length pre + length (number_bytes n ++ numbers_bytes ns))) (sym same)
+    (ap (λ (r : Number). then r (λ next. numbers_at all next (length ns))) one ∙ ap (before n) (ih ∙ ap (numbers ns) sum))
 
 -- an event as numbers: its kind is one, has as many arguments as the event, and with them makes the event again
 record Numbered (e : Event) (next : ℕ) : Type 0 where

@@ -1,8 +1,10 @@
 // Runs the script on standard input on the chip that the words after the program's name name, and writes its text to standard output.
 #![tactic(auto)]
 
-use libc::{STDIN_FILENO, STDOUT_FILENO};
 use rules::Setup;
+
+const STDIN_FILENO: i32 = 0;
+const STDOUT_FILENO: i32 = 1;
 
 // The buffer has room for a line, so each call ends the script or moves on in it.
 fn run_all(setup: Setup, script: &[u8]) {

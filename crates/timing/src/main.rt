@@ -2,9 +2,11 @@
 // `tools/speed` times beside the plain version. Every event is a public call, soundness test included.
 #![tactic(auto)]
 
-use libc::{STDIN_FILENO, STDOUT_FILENO};
 use model::State;
 use script::ReadEvent;
+
+const STDIN_FILENO: i32 = 0;
+const STDOUT_FILENO: i32 = 1;
 
 const TIMES: u64 = 100;
 

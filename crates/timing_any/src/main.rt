@@ -4,9 +4,11 @@
 #![tactic(auto)]
 
 use any_chip::State;
-use libc::{STDIN_FILENO, STDOUT_FILENO};
 use rules::Setup;
 use script::ReadEvent;
+
+const STDIN_FILENO: i32 = 0;
+const STDOUT_FILENO: i32 = 1;
 
 const TIMES: u64 = 100;
 

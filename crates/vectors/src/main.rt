@@ -10,9 +10,10 @@ ghost use Rattle.text.specs.Text.{text_of};
 ghost use Rattle.vectors.specs.Agree.{Agree};
 ghost use Rattle.vectors.specs.Way.{chip_by};
 
-use libc::STDOUT_FILENO;
 use rules::Setup;
 use setup_words::Words;
+
+const STDOUT_FILENO: i32 = 1;
 
 // What a vector runs on.
 #[derive(Clone, Copy)]

@@ -26,7 +26,7 @@ loop-i-preserved c =
       omega arith,
       elim c.if-covers.branch [
         then-covers+else-once w ↦ rw (add-one, w.once-is, w.rbar-is) (first_one c.args.rbars.now c.args.rlars.now c.args.address c.loop-i.i c.loop-i.once c.loop-i.rbar c.loop-i.invariant.1 w.if-once.false (sym c.covers.ensures ∙ w.if-covers.true))
-      | else-covers w ↦ ?
+      | else-covers w ↦ rw (add-one, w.once-is, w.rbar-is) (not_one c.args.rbars.now c.args.rlars.now c.args.address c.loop-i.i c.loop-i.once c.loop-i.rbar c.loop-i.invariant.1 (sym c.covers.ensures ∙ w.if-covers.false))
       ],
     )
 

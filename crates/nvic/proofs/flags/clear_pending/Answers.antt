@@ -1,0 +1,10 @@
+-- The word to clear, call by call.
+use mathlib.Core.Path.{◌∙◌}
+use Rattle.rules.specs.Writes.{clearable}
+use Rattle.std.proofs.Common.{◌-◌}
+use Rattle.flag_words.specs.Flags.{clear_flags}
+use Rattle.nvic.proofs.flags.clear_pending.Goals as goal
+
+pub returns : goal.returns
+unfolding clearable
+returns c = c.clear_flags.ensures ∙ simp (c.clear_ones.ensures, c.clear_ones-held.ensures, c.flags_word-2.ensures, c.flags_word.ensures)
