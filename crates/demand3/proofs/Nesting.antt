@@ -67,7 +67,7 @@ module _ {c : Chip} {m : Model} (h : Sound c m) where
         omega arith
       where
         split : (k : ℕ) → (k ≡ n) ⊎ Memᴰ k (stack m) → T (exists c k)
-        split k (inl e) = rw e pending_exists
+        split k (inl e) = subst (λ (j : ℕ). T (exists c j)) (sym e) pending_exists
         split k (inr i) = h.active.only k (h.nested.shown k i)
 
         member : (k : ℕ) → Memᴰ k (n ∷ stack m) → T (exists c k)

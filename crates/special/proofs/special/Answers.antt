@@ -18,7 +18,7 @@ returns-then-lacks_special c = λ m. simp (c.refused-then-lacks_special.ensures,
 pub returns-then-is_privileged : goal.returns-then-is_privileged
 unfolding special_at
 returns-then-is_privileged c =
-    λ m. simp (c.accepted.ensures, c.special_written-next.ensures, to_z-of_z c.fits.limit, le-ltb _ _ c.if-which-gt4.false, sym c.lacks_special.ensures ∙ c.if-lacks_special.false, sym c.is_privileged.ensures ∙ c.if-is_privileged.true)
+    λ m. simp (c.accepted.ensures, c.special_written-next.ensures, to_z-of_z c.ranges.limit, le-ltb _ _ c.if-which-gt4.false, sym c.lacks_special.ensures ∙ c.if-lacks_special.false, sym c.is_privileged.ensures ∙ c.if-is_privileged.true)
 
 pub returns : goal.returns
 unfolding special_at

@@ -22,7 +22,7 @@ returns-then-not-unused_sound c =
 pub returns-then-not-active_nested : goal.returns-then-not-active_nested
 unfolding sound_nest
 returns-then-not-active_nested c =
-    simp (ap (every _) (sym c.pre.0) ∙ sym c.active_nested.ensures ∙ c.if-not-active_nested.true, and-false)
+    simp (ap (every _) (sym c.requires.0) ∙ sym c.active_nested.ensures ∙ c.if-not-active_nested.true, and-false)
 
 pub returns-then-not-nested_active : goal.returns-then-not-nested_active
 unfolding sound_nest
@@ -31,8 +31,8 @@ returns-then-not-nested_active c = simp (sym c.nested_active.ensures ∙ c.if-no
 pub returns : goal.returns
 unfolding sound_nest
 returns c =
-    let fits = le-leb _ _ (rw c.pre.1 at c.if-nest-depth.false) in
-    let unused = ap (every _) (sym c.pre.1) ∙ sym c.unused_sound.ensures ∙ c.if-not-unused_sound.false in
-    let nested = ap (every _) (sym c.pre.0) ∙ sym c.active_nested.ensures ∙ c.if-not-active_nested.false in
+    let fits = le-leb _ _ (rw c.requires.1 at c.if-nest-depth.false) in
+    let unused = ap (every _) (sym c.requires.1) ∙ sym c.unused_sound.ensures ∙ c.if-not-unused_sound.false in
+    let nested = ap (every _) (sym c.requires.0) ∙ sym c.active_nested.ensures ∙ c.if-not-active_nested.false in
     let shown = sym c.nested_active.ensures ∙ c.if-not-nested_active.false in
     c.are_distinct.ensures ∙ and_last (and_true_of (and_true_of (and_true_of fits unused) nested) shown)

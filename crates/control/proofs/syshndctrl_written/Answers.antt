@@ -1,0 +1,9 @@
+-- The three flags in the definition's order.
+use mathlib.Core.Path.{◌∙◌}
+use Rattle.rules.specs.Writes.{syshndctrl_written}
+use Rattle.std.proofs.Common.{◌-◌}
+use Rattle.control.proofs.syshndctrl_written.Goals as goal
+
+pub returns : goal.returns
+unfolding syshndctrl_written
+returns c = c.store_flag-3.ensures ∙ simp (c.test_bit-3.ensures, c.store_flag-2.ensures, c.test_bit-2.ensures, c.store_flag.ensures, c.test_bit.ensures)

@@ -1,0 +1,13 @@
+-- The refusal of a level event, or the count.
+use borrow.Author.Tests.{le-leb, lt-leb}
+use Rattle.rules.specs.Events.{lost_call}
+use Rattle.std.proofs.Common.{◌-◌, true, false}
+use Rattle.pulses.proofs.lost.Goals as goal
+
+pub returns-then-chip-line : goal.returns-then-chip-line
+unfolding lost_call
+returns-then-chip-line c = λ m. simp (c.refused.ensures, le-leb _ _ c.if-chip-line.true)
+
+pub returns : goal.returns
+unfolding lost_call
+returns c = λ m. simp (c.accepted.ensures, c.count_at.ensures, lt-leb _ _ c.if-chip-line.false)

@@ -1,0 +1,9 @@
+-- The top of a nest of bytes is a byte.
+use mathlib.Core.Path.{◌∙◌}
+use Rattle.std.proofs.Common.{◌-◌}
+use Rattle.rules.specs.Reads.{shows_base, intctrl_value}
+use Rattle.reads.proofs.intctrl_value.Goals as goal
+
+pub returns : goal.returns
+unfolding shows_base
+returns c = c.intctrl_value.ensures ∙ simp (c.top_of.ensures, c.both-base.ensures, c.is_armv6m.ensures)

@@ -1,0 +1,10 @@
+-- Part by part.
+use mathlib.Core.Path.{◌∙◌}
+use Rattle.rules.specs.Sound.{is_bare}
+use Rattle.std.proofs.Common.{◌-◌}
+use Rattle.rules.specs.Sound.{bare_masks, bare_system}
+use Rattle.sound_state.proofs.bare.is_bare.Goals as goal
+
+pub returns : goal.returns
+unfolding is_bare
+returns c = c.both-2.ensures ∙ simp (c.bare_system.ensures, c.both.ensures, c.is_unused.ensures, c.both-front.ensures, c.bare_masks.ensures)
