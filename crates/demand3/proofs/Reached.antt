@@ -5,13 +5,13 @@ use Rattle.script.specs.declared.Event.{Event}
 use Rattle.rules.specs.declared.Chip.{Chip}
 use Rattle.rules.specs.Model.{Model, Answer, fresh}
 use Rattle.rules.specs.Sound.{Sound}
-use Rattle.rules.specs.Step.{run_of}
+use Rattle.rules.specs.Step.{step_of, run_of}
 use Rattle.demand3.specs.Demand3.{Calls, stop, call}
 use Rattle.demand3.proofs.Steps.{step_keeps, sound_fresh}
 
 pub run_keeps : {c : Chip} {m : Model} → Sound c m → (es : List Event) → Sound c (run_of c m es)
 run_keeps h [] = h
-run_keeps h (e ∷ es) = run_keeps (step_keeps h e) es
+run_keeps {c = c} {m = m} h (e ∷ es) = run_keeps {c = c} {m = (step_of c m e).next} (step_keeps h e) es
 
 pub reached_sound : (c : Chip) (es : List Event) → Sound c (run_of c (fresh c) es)
 reached_sound c es = run_keeps (sound_fresh c) es

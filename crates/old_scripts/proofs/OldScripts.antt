@@ -81,10 +81,10 @@ module _ {c d : Chip} (g : Grown c d) where
 
   answers_agree : {m t : Model} → Sound c m → Sound d t → Alike m t → (es : List Event) → T (are_old c d es) → Agreeing (answers_of c m es) (answers_of d t es)
   answers_agree h k a [] o = tt
-  answers_agree h k a (e ∷ es) o =
+  answers_agree {m = m} {t = t} h k a (e ∷ es) o =
       let p = both (is_old c d e) (are_old c d es) o in
       let s = step_agrees h k a e p.0 in
-      (s, answers_agree (step_keeps h e) (step_keeps k e) s.next es p.1)
+      (s, answers_agree {m = (step_of c m e).next} {t = (step_of d t e).next} (step_keeps h e) (step_keeps k e) s.next es p.1)
 
 -- ---- the text
 

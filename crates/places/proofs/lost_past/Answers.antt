@@ -1,0 +1,20 @@
+-- Block by block, and the last block by itself: together they are the places past n.
+use Prim.Native.Nat.{◌-◌}
+use mathlib.Core.Path.{◌∙◌}
+use mathlib.Core.Bool.{◌||◌}
+use native.Mathlib.Omega.{arith}
+use Rattle.places.specs.Places.{nonzero}
+use Rattle.places.proofs.Laws.{in_size, begun, further, covered}
+use Rattle.std.proofs.Common.{true, false}
+use Rattle.places.proofs.lost_past.Goals as goal
+
+pub loop-i-init : goal.loop-i-init
+loop-i-init c = (omega arith, in_size c.requires, begun _ _)
+
+pub loop-i-preserved : goal.loop-i-preserved
+loop-i-preserved c =
+    (omega arith, omega arith, c.either-found.ensures ∙ (λ z. c.lost_block.ensures z || c.loop-i.found) ∙ further (nonzero c.args.lost.now) c.args.n c.loop-i.i c.loop-i.found c.loop-i.invariant.0 c.loop-i.invariant.2)
+
+pub returns-then-n-le176 : goal.returns-then-n-le176
+returns-then-n-le176 c =
+    c.either.ensures ∙ (λ z. c.lost_block-then-n-le176.ensures z || c.loop-i.found) ∙ covered (nonzero c.args.lost.now) c.args.n c.loop-i.i 176 c.loop-i.found c.if-n-le176.true (omega (arith, c.loop-i-test.false)) c.loop-i.invariant.1 c.loop-i.invariant.2
