@@ -41,14 +41,14 @@ module _ (c : Chip) where
   run_ticks : T (fits c) → {m : Model} → Sound c m → (n : ℕ) → run_of c m (ticks n) ≡ ticked n m
   unfolding ticked
   run_ticks f h zero = refl
-  run_ticks f h (suc n) = ap (λ (a : Answer). run_of c a.next (ticks n)) (step_sound f h Tick) ∙ run_ticks f (act_sound h Tick) n
+  run_ticks f {m = m} h (suc n) = ap (λ (a : Answer). run_of c a.next (ticks n)) (step_sound f h Tick) ∙ run_ticks f {m = (act_of c m Tick).next} (act_sound h Tick) n
 
   some_ticks : T (fits c) → {m : Model} → Sound c m → (n : ℕ) → some_one (answers_of c m (ticks n)) ≡ some_fall n m
   unfolding some_fall
   some_ticks f h zero = refl
-  some_ticks f {m} h (suc n) =
+  some_ticks f {m = m} h (suc n) =
       ap (λ (a : Answer). eqb a.value 1 || some_one (answers_of c a.next (ticks n))) (step_sound f h Tick)
-      ∙ ap (λ (b : Bool). eqb (act_of c m Tick).value 1 || b) (some_ticks f (act_sound h Tick) n)
+      ∙ ap (λ (b : Bool). eqb (act_of c m Tick).value 1 || b) (some_ticks f {m = (act_of c m Tick).next} (act_sound h Tick) n)
 
   accepted : T (fits c) → (m : Model) → Sound c m → (n : ℕ) → step_of c m (Skip n) ≡ done (bit (some_one (answers_of c m (ticks n)))) (run_of c m (ticks n))
   unfolding skip_call

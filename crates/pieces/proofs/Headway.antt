@@ -112,7 +112,7 @@ gone : {c : Chip} {script : List ℕ} → T (fits c) → Bytes script → (es : 
 gone f small [] at events room d s = gone_by f s at events room small (λ e next o h. absurd (some_event o d))
 gone {c} {script} f small (x ∷ es) {m} at events room d s =
     gone_by f s at events room small
-    (λ e next o h. gone_one f s at events room h e next o _ _ (gone f small es next (suc events) _ (events_after o x es d) (act_sound s e)) (gone_next c script m at events room e next o f s h))
+    (λ e next o h. gone_one f s at events room h e next o _ _ (gone f small es {m = (act_of c m e).next} next (suc events) _ (events_after o x es d) (act_sound s e)) (gone_next c script m at events room e next o f s h))
 
 -- ---- a call
 
