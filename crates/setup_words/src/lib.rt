@@ -1,11 +1,13 @@
 // The words after a program's name that name a setup.
 #![tactic(auto)]
 
-ghost use Rattle.std.specs.Prelude.{◌≡◌, cond, ◌-◌};
+ghost use Rattle.std.specs.Prelude.{◌≡◌, cond, ◌-◌, ◌≤◌, length};
 ghost use Rattle.setup_words.specs.Words.{is_same, is_digit, are_digits, is_number, with_digit, number_from, started, mistaken, with_lines, with_part, keeping, guarded_by, with_core, core_by, lines_by, bits_by, guard_by, paired};
 
 use mpu::Edition;
 use rules::{Part, Setup};
+use std::env::FillError;
+use std::rt::Env;
 
 // The setup named so far, which words named it, and whether one of the words or values was wrong.
 #[derive(Clone, Copy)]
@@ -301,23 +303,41 @@ pub fn pair(words: Words, word: &[u8], value: &[u8]) -> Words
     words.mistaken()
 }
 
+// Puts an argument's bytes at the start of `space` and returns how many they are: none where it is missing or longer.
+pub fn argument(rt: &impl Env, i: usize, space: &mut [u8]) -> usize
+    ensures { result ≤ length space.new }
+{
+    rt.arg(i, space).unwrap_or(0)
+}
+
+// How many arguments there are, the program's name among them.
+pub fn argument_count(rt: &impl Env) -> usize {
+    for i in 0..usize::MAX {
+        let mut space = [0u8; 1];
+        if let Err(FillError::NotPresent) = rt.arg(i, &mut space) {
+            return i;
+        }
+    }
+    usize::MAX
+}
+
 // The arguments at two places, a word and its value. One that is missing or longer than its space counts as empty.
-pub fn pair_at(words: Words, word: usize, value: usize) -> Words {
+pub fn pair_at(rt: &impl Env, words: Words, word: usize, value: usize) -> Words {
     let mut word_space = [0u8; 16];
     let mut value_space = [0u8; 64];
-    let n = os::arg(word, &mut word_space);
-    let m = os::arg(value, &mut value_space);
+    let n = argument(rt, word, &mut word_space);
+    let m = argument(rt, value, &mut value_space);
     pair(words, &word_space[..n], &value_space[..m])
 }
 
 // The program's own arguments.
-pub fn named() -> Words {
-    let pairs = os::arg_count() / 2;
+pub fn named(rt: &impl Env) -> Words {
+    let pairs = argument_count(rt) / 2;
     let mut words = start();
     let mut k = 0;
     while k < pairs {
         let word = 2 * k + 1;
-        words = pair_at(words, word, word + 1);
+        words = pair_at(rt, words, word, word + 1);
         k += 1;
     }
     words

@@ -1,0 +1,40 @@
+-- The tests of refusals 17 and 16 decide between the event and its refusal; a sound state meets what an event asks.
+use mathlib.Core.Path.{◌≡◌, sym, ◌∙◌}
+use mathlib.Core.Bool.{true}
+use native.Mathlib.Omega.{arith}
+use mir.Facts.{to_z-of_z}
+use borrow.Author.Rules.{rules}
+use borrow.Author.Tests.{not-false}
+use Rattle.rules.specs.Chip.{fits}
+use Rattle.rules.specs.Lent.{model_of}
+use Rattle.rules.specs.Model.{Model}
+use Rattle.rules.specs.Sound.{is_sound, Sound}
+use Rattle.demand3.proofs.Check.{depth_fits}
+use Rattle.demand3.proofs.Nesting.{execution_nest}
+use Rattle.guarded.proofs.Laws.{tested, misfit, refuses, passes}
+use mir.Syntax.{w32}
+use Rattle.std.proofs.Common.{◌-◌, false}
+use Rattle.guarded.proofs.step.Goals as goal
+
+pub returns-then-not-fits : goal.returns-then-not-fits
+returns-then-not-fits c = rw c.refused.ensures (misfit _ _ _ (sym c.fits.ensures ∙ c.if-not-fits.true))
+
+pub returns-then-not-is_sound : goal.returns-then-not-is_sound
+returns-then-not-is_sound c =
+    rw c.refused-then-not-is_sound.ensures (refuses _ _ _ (sym c.fits.ensures ∙ c.if-not-fits.false) (sym c.is_sound.ensures ∙ c.if-not-is_sound.true))
+
+pub execution-limit-requires : goal.execution-limit-requires
+execution-limit-requires c =
+    let s = tested _ _ (sym c.is_sound.ensures ∙ c.if-not-is_sound.false) in
+    let d = depth_fits s in
+    let l = s.places.size in
+    omega arith
+
+pub act-requires : goal.act-requires
+act-requires c =
+    let s = tested _ _ (sym c.is_sound.ensures ∙ c.if-not-is_sound.false) in
+    record { lines = c.requires.lines; sound = s; priority = to_z-of_z {w = w32} (search rules) ∙ c.execution-limit.ensures ∙ execution_nest s }
+
+pub returns : goal.returns
+returns c =
+    c.act.ensures ∙ passes _ _ _ (sym c.fits.ensures ∙ c.if-not-fits.false) (sym c.is_sound.ensures ∙ c.if-not-is_sound.false)
