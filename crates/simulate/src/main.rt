@@ -18,8 +18,8 @@ fn run_all(setup: Setup, script: &[u8]) {
 }
 
 // One byte more than a script may have is enough to know that it is too long.
-fn main() {
-    let words = setup_words::named();
+fn main(rt: HostRuntime) {
+    let words = setup_words::named(&rt);
     if words.wrong {
         io::write_all(
             STDOUT_FILENO,

@@ -48,10 +48,10 @@ fn run_often(script: &[u8], setup: Setup) -> u64 {
     sum
 }
 
-fn main() {
+fn main(rt: HostRuntime) {
     let mut space = [0u8; 65537];
     let n = io::read_full(STDIN_FILENO, &mut space);
-    let words = setup_words::named();
+    let words = setup_words::named(&rt);
     let setup = words.setup;
     let sum = run_often(&space[..n], setup);
     io::print_decimal(STDOUT_FILENO, sum);

@@ -12,6 +12,9 @@ ghost use Rattle.vectors.specs.Way.{chip_by};
 
 use rules::Setup;
 use setup_words::Words;
+use std::fs::File;
+use std::io::Read;
+use std::rt::{Env, Files};
 
 const STDOUT_FILENO: i32 = 1;
 
@@ -126,42 +129,60 @@ fn number(n: usize) {
 }
 
 // The argument that names a file.
-fn name(i: usize) {
+fn name(rt: &impl Env, i: usize) {
     let mut space = [0u8; 64];
-    let n = os::arg(i, &mut space);
+    let n = setup_words::argument(rt, i, &mut space);
     text(&space[..n]);
 }
 
-// Reads the file that an argument names. As many bytes as there is space for, if it cannot be read or is longer.
-fn read_file(i: usize, space: &mut [u8]) -> usize
+// Reads until `space` is full, the file ends or a read fails, and returns how many bytes stand at the start of `space`.
+fn read_full(file: &mut impl Read, space: &mut [u8]) -> usize
     ensures { IsPrefixLen result space.new }
 {
-    let mut path = [0u8; 64];
-    let n = os::arg(i, &mut path);
-    let file = os::open_read(&path[..n]);
-    if file < 0 {
-        return space.len();
+    let mut done = 0;
+    while done < space.len() {
+        let got = file.read(&mut space[done..]).unwrap_or(0);
+        if got == 0 {
+            return done;
+        }
+        done += got;
     }
-    let got = io::read_full(file, space);
-    libc::close(file);
-    got
+    done
 }
 
-fn unread(i: usize) -> usize
+// Opens the file that an argument names. A name that is not text counts as one that cannot be opened.
+fn opened<R: Env + Files>(rt: &R, i: usize) -> Option<R::File> {
+    let mut path = [0u8; 64];
+    let n = setup_words::argument(rt, i, &mut path);
+    let name = str::from_utf8(&path[..n]).ok()?;
+    File::open(rt, name).ok()
+}
+
+// Reads the file that an argument names. As many bytes as there is space for, if it cannot be read or is longer.
+fn read_file<R: Env + Files>(rt: &R, i: usize, space: &mut [u8]) -> usize
+    ensures { IsPrefixLen result space.new }
+{
+    match opened(rt, i) {
+        None => space.len(),
+        Some(mut file) => read_full(&mut file, space),
+    }
+}
+
+fn unread(rt: &impl Env, i: usize) -> usize
     ensures { result ≤ 1 }
 {
-    name(i);
+    name(rt, i);
     text(b" cannot be read\n");
     0
 }
 
-fn judged(i: usize, line: usize) -> usize
+fn judged(rt: &impl Env, i: usize, line: usize) -> usize
     ensures { result ≤ 1 }
 {
     if line == 0 {
         return 1;
     }
-    name(i);
+    name(rt, i);
     text(b" differs first in line ");
     number(line);
     text(b"\n");
@@ -169,21 +190,21 @@ fn judged(i: usize, line: usize) -> usize
 }
 
 // The script that an argument names, and the lines that the next one names: 1 if they agree.
-fn vector(way: Way, i: usize) -> usize
+fn vector<R: Env + Files>(rt: &R, way: Way, i: usize) -> usize
     requires { i + 1 < 2 ^ 64 }
     ensures { result ≤ 1 }
 {
     let mut script = [0u8; 65538];
     let mut want = [0u8; 262144];
-    let length = read_file(i, &mut script);
+    let length = read_file(rt, i, &mut script);
     if length == script.len() {
-        return unread(i);
+        return unread(rt, i);
     }
-    let wanted = read_file(i + 1, &mut want);
+    let wanted = read_file(rt, i + 1, &mut want);
     if wanted == want.len() {
-        return unread(i + 1);
+        return unread(rt, i + 1);
     }
-    judged(i, difference(way, &script[..length], &want[..wanted]))
+    judged(rt, i, difference(way, &script[..length], &want[..wanted]))
 }
 
 fn summary(agreed: usize, vectors: usize) {
@@ -193,9 +214,9 @@ fn summary(agreed: usize, vectors: usize) {
     text(b" vectors agree\n");
 }
 
-fn is_word(i: usize) -> bool {
+fn is_word(rt: &impl Env, i: usize) -> bool {
     let mut space = [0u8; 64];
-    let n = os::arg(i, &mut space);
+    let n = setup_words::argument(rt, i, &mut space);
     if n < 2 {
         return false;
     }
@@ -206,27 +227,27 @@ fn is_word(i: usize) -> bool {
 }
 
 // The words with the one at i and its value, where words stood before it too; else these two alone.
-fn continued(words: Words, naming: bool, i: usize) -> Words
+fn continued(rt: &impl Env, words: Words, naming: bool, i: usize) -> Words
     requires { i + 1 < 2 ^ 64 }
 {
     if naming {
-        return setup_words::pair_at(words, i, i + 1);
+        return setup_words::pair_at(rt, words, i, i + 1);
     }
-    setup_words::pair_at(setup_words::start(), i, i + 1)
+    setup_words::pair_at(rt, setup_words::start(), i, i + 1)
 }
 
 // The way after the word at i. Words that are wrong are reported, and leave it.
-fn named(way: Way, words: Words, i: usize) -> Way {
+fn named(rt: &impl Env, way: Way, words: Words, i: usize) -> Way {
     if words.wrong {
-        unread(i);
+        unread(rt, i);
         return way;
     }
     let setup = words.setup;
     Way::AnyRun(setup)
 }
 
-fn main() {
-    let pairs = os::arg_count() / 2;
+fn main(rt: HostRuntime) {
+    let pairs = setup_words::argument_count(&rt) / 2;
     let mut way = Way::Run;
     let mut words = setup_words::start();
     let mut naming = false;
@@ -236,14 +257,14 @@ fn main() {
     while k < pairs {
         let i = 2 * k + 1;
         k += 1;
-        if is_word(i) {
-            words = continued(words, naming, i);
+        if is_word(&rt, i) {
+            words = continued(&rt, words, naming, i);
             naming = true;
-            way = named(way, words, i);
+            way = named(&rt, way, words, i);
             continue;
         }
         naming = false;
-        agreed += vector(way, i);
+        agreed += vector(&rt, way, i);
         vectors += 1;
     }
     summary(agreed, vectors);
