@@ -6,7 +6,6 @@ use lib.ListN.{length}
 use mir.Facts.{to_z-of_z}
 use mir.Syntax.{w32}
 use Rattle.decimal.specs.Decimal.{line_room}
-use Rattle.numbers.specs.NumberLaws.{Bytes}
 use Rattle.rules.specs.Lent.{model_of, answer}
 use Rattle.rules.specs.Model.{Answer}
 use Rattle.rules.specs.Sound.{Sound}
@@ -21,35 +20,49 @@ use Rattle.std.proofs.Common.{true, false}
 use Rattle.running.proofs.run_events.Goals as goal
 
 pub execution-limit-requires : goal.execution-limit-requires
-execution-limit-requires c = let h = (let h : Sound c.args.chip (model_of c.args.pending.now c.args.active.now c.args.enabled.now c.args.level.now c.args.priority.now c.args.nest.now c.args.lost.now c.args.course.core) = (usable_of _ _ _ c.requires.1.tested).sound in h) in let d = depth_fits h in let l = h.places.size in omega arith
+execution-limit-requires c =
+    let s = (usable_of _ _ _ c.requires.1.tested).sound in
+    let d = depth_fits s in
+    let l = s.places.size in
+    omega arith
 
 pub loop-out-init : goal.loop-out-init
 loop-out-init c =
-    (going_first _ _ _ _ _ _ ((let h : Sound c.args.chip (model_of c.args.pending.now c.args.active.now c.args.enabled.now c.args.level.now c.args.priority.now c.args.nest.now c.args.lost.now c.args.course.core) = (usable_of _ _ _ c.requires.1.tested).sound in h)) (usable_of _ _ _ c.requires.1.tested).counted, to_z-of_z {w = w32} (search rules) ∙ c.execution-limit.ensures ∙ execution_nest ((let h : Sound c.args.chip (model_of c.args.pending.now c.args.active.now c.args.enabled.now c.args.level.now c.args.priority.now c.args.nest.now c.args.lost.now c.args.course.core) = (usable_of _ _ _ c.requires.1.tested).sound in h)))
+    let u = usable_of _ _ _ c.requires.1.tested in
+    (going_first _ _ _ _ _ _ u.sound u.counted, to_z-of_z {w = w32} (search rules) ∙ c.execution-limit.ensures ∙ execution_nest u.sound)
 
 pub returns-in-Refused : goal.returns-in-Refused
 returns-in-Refused c =
-    let h = (let h : c.loop-out.wrote + line_room ≤ length c.loop-out.out = omega (arith, c.loop-out-test.true, c.loop-out.invariant.0.within, c.loop-out.invariant.0.sized) in h) in
+    let h : c.loop-out.wrote + line_room ≤ length c.loop-out.out = omega (arith, c.loop-out-test.true, c.loop-out.invariant.0.within, c.loop-out.invariant.0.sized) in
     ran_closed c.requires.1 c.loop-out.invariant.0 (omega arith) _ _ (rw c.going.ensures at c.close.ensures)
 
 pub overflow_add-events : goal.overflow_add-events
 overflow_add-events c =
-    omega (arith, ((let h : One (c).args.script.now c.loop-out.at c.in-Found.event c.in-Found.next = one_of _ c.requires.1.short ((let h : Bytes c.args.script.now = λ i. omega (arith, c.type_inv.script i) in h)) _ _ _ (sym c.read_event.ensures.value ∙ c.in-Found.is) in h)).forward, ((let h : One (c).args.script.now c.loop-out.at c.in-Found.event c.in-Found.next = one_of _ c.requires.1.short ((let h : Bytes c.args.script.now = λ i. omega (arith, c.type_inv.script i) in h)) _ _ _ (sym c.read_event.ensures.value ∙ c.in-Found.is) in h)).inside, c.loop-out.invariant.0.counted, (c).pre.1.short)
+    let o : One c.args.script.now c.loop-out.at c.in-Found.event c.in-Found.next = one_of _ c.requires.1.short (λ i. omega (arith, c.type_inv.script i)) _ _ _ (sym c.read_event.ensures.value ∙ c.in-Found.is) in
+    omega (arith, o.forward, o.inside, c.loop-out.invariant.0.counted, c.requires.1.short)
 
 pub put_answer-line-requires : goal.put_answer-line-requires
 put_answer-line-requires c =
-    let h = (let h : Sound ((c)).args.chip ((answer c.act-done.result (model_of c.act-done.new.active.0 c.act-done.new.active.1.0 c.act-done.new.active.1.1.0 c.act-done.new.active.1.1.1.0 c.act-done.new.active.1.1.1.1.0 c.act-done.new.active.1.1.1.1.1.0 c.act-done.new.active.1.1.1.1.1.1.0 c.act-done.result.core))).next = subst (λ (c : Answer). Sound ((c)).args.chip c.next) (sym c.act-done.ensures) (act_sound c.loop-out.invariant.0.sound c.in-Found.event) in h) in
-    let d = depth_fits h in
-    let l = h.places.size in
-    (omega arith, (let h : c.loop-out.wrote + line_room ≤ length c.loop-out.out = omega (arith, c.loop-out-test.true, c.loop-out.invariant.0.within, c.loop-out.invariant.0.sized) in h))
+    let after = answer c.act-done.result (model_of c.act-done.new.pending c.act-done.new.active c.act-done.new.enabled c.act-done.new.level c.act-done.new.priority c.act-done.new.nest c.act-done.new.lost c.act-done.result.core) in
+    let s : Sound c.args.chip after.next = subst (λ (a : Answer). Sound c.args.chip a.next) (sym c.act-done.ensures) (act_sound c.loop-out.invariant.0.sound c.in-Found.event) in
+    let d = depth_fits s in
+    let l = s.places.size in
+    let h : c.loop-out.wrote + line_room ≤ length c.loop-out.out = omega (arith, c.loop-out-test.true, c.loop-out.invariant.0.within, c.loop-out.invariant.0.sized) in
+    (omega arith, h)
 
 pub loop-out-smaller : goal.loop-out-smaller
-loop-out-smaller c = let e = (c) in omega (arith, ((let h : One (e).args.script.now e.loop-out.at e.in-Found.event e.in-Found.next = one_of _ e.pre.1.short ((let h : Bytes e.args.script.now = λ i. omega (arith, e.type_inv.script i) in h)) _ _ _ (sym e.read_event.ensures.value ∙ e.in-Found.is) in h)).forward, ((let h : One (e).args.script.now e.loop-out.at e.in-Found.event e.in-Found.next = one_of _ e.pre.1.short ((let h : Bytes e.args.script.now = λ i. omega (arith, e.type_inv.script i) in h)) _ _ _ (sym e.read_event.ensures.value ∙ e.in-Found.is) in h)).inside)
+loop-out-smaller c =
+    let o : One c.args.script.now c.loop-out.at c.in-Found.event c.in-Found.next = one_of _ c.requires.1.short (λ i. omega (arith, c.type_inv.script i)) _ _ _ (sym c.read_event.ensures.value ∙ c.in-Found.is) in
+    omega (arith, o.forward, o.inside)
 
 pub loop-out-preserved : goal.loop-out-preserved
 loop-out-preserved c =
-    let x = c.put_answer-line.ensures.priority ∙ execution_nest ((let h : Sound ((c)).args.chip ((answer c.act-done.result (model_of c.act-done.new.active.0 c.act-done.new.active.1.0 c.act-done.new.active.1.1.0 c.act-done.new.active.1.1.1.0 c.act-done.new.active.1.1.1.1.0 c.act-done.new.active.1.1.1.1.1.0 c.act-done.new.active.1.1.1.1.1.1.0 c.act-done.result.core))).next = subst (λ (c : Answer). Sound ((c)).args.chip c.next) (sym c.act-done.ensures) (act_sound c.loop-out.invariant.0.sound c.in-Found.event) in h)) in
-    (going_next c.loop-out.invariant.0 (c).pre.1.fit _ _ ((let h : One (c).args.script.now c.loop-out.at c.in-Found.event c.in-Found.next = one_of _ c.requires.1.short ((let h : Bytes c.args.script.now = λ i. omega (arith, c.type_inv.script i) in h)) _ _ _ (sym c.read_event.ensures.value ∙ c.in-Found.is) in h)) ((answer c.act-done.result (model_of c.act-done.new.active.0 c.act-done.new.active.1.0 c.act-done.new.active.1.1.0 c.act-done.new.active.1.1.1.0 c.act-done.new.active.1.1.1.1.0 c.act-done.new.active.1.1.1.1.1.0 c.act-done.new.active.1.1.1.1.1.1.0 c.act-done.result.core))) c.act-done.ensures _ refl _ x _ _ ((let h : c.loop-out.wrote + line_room ≤ length c.loop-out.out = omega (arith, c.loop-out-test.true, c.loop-out.invariant.0.within, c.loop-out.invariant.0.sized) in h)) c.put_answer-line.ensures.line c.put_answer-line.ensures.within, to_z-of_z {w = w32} (search rules) ∙ x)
+    let o : One c.args.script.now c.loop-out.at c.in-Found.event c.in-Found.next = one_of _ c.requires.1.short (λ i. omega (arith, c.type_inv.script i)) _ _ _ (sym c.read_event.ensures.value ∙ c.in-Found.is) in
+    let after = answer c.act-done.result (model_of c.act-done.new.pending c.act-done.new.active c.act-done.new.enabled c.act-done.new.level c.act-done.new.priority c.act-done.new.nest c.act-done.new.lost c.act-done.result.core) in
+    let s : Sound c.args.chip after.next = subst (λ (a : Answer). Sound c.args.chip a.next) (sym c.act-done.ensures) (act_sound c.loop-out.invariant.0.sound c.in-Found.event) in
+    let x = c.put_answer-line.ensures.priority ∙ execution_nest s in
+    let h : c.loop-out.wrote + line_room ≤ length c.loop-out.out = omega (arith, c.loop-out-test.true, c.loop-out.invariant.0.within, c.loop-out.invariant.0.sized) in
+    (going_next c.loop-out.invariant.0 c.requires.1.fit _ _ o after c.act-done.ensures _ refl _ x _ _ h c.put_answer-line.ensures.line c.put_answer-line.ensures.within, to_z-of_z {w = w32} (search rules) ∙ x)
 
 pub returns : goal.returns
 returns c =

@@ -15,12 +15,12 @@ returns-then-course c = rw c.unmoved.ensures (ran_ended c.if-course.true refl)
 
 pub returns-then-not-fits : goal.returns-then-not-fits
 returns-then-not-fits c =
-    ran_unadmitted c.if-course.false (sym c.fits2.ensures ∙ c.if-not-fits.true) c.unadmitted.ensures
+    ran_unadmitted c.if-course.false (sym c.fits.ensures ∙ c.if-not-fits.true) c.unadmitted.ensures
 
 pub returns-then-script-gt-LONGEST : goal.returns-then-script-gt-LONGEST
 returns-then-script-gt-LONGEST c =
-    ran_long c.if-course.false ((let h : T (fits c.args.chip) = is_true (sym c.fits2.ensures ∙ c.if-not-fits.false) in h)) (omega (arith, c.if-script-gt-LONGEST.true)) c.run_long.ensures
+    ran_long c.if-course.false (is_true (sym c.fits.ensures ∙ c.if-not-fits.false)) (omega (arith, c.if-script-gt-LONGEST.true)) c.run_long.ensures
 
 pub returns : goal.returns
 returns c =
-    rw c.refused.ensures (ran_refused c.if-course.left ((let h : T (fits c.args.chip) = is_true (sym c.fits2.ensures ∙ c.if-not-fits.false) in h)) (omega (arith, c.if-script-gt-LONGEST.false)) (sym c.is_usable.ensures ∙ c.if-is_usable.false) refl)
+    rw c.refused.ensures (ran_refused c.if-course.false (is_true (sym c.fits.ensures ∙ c.if-not-fits.false)) (omega (arith, c.if-script-gt-LONGEST.false)) (sym c.is_usable.ensures ∙ c.if-is_usable.false) refl)
