@@ -7,7 +7,7 @@ use Rattle.mpu.specs.declared.Edition.{Edition}
 use Rattle.rules.specs.declared.Part.{Part}
 use Rattle.rules.specs.declared.Part.TheVariants.{Lines55, Lines240, CortexM0}
 use Rattle.rules.specs.Chip.{chip55, chip240, chip_of, fits}
-use Rattle.rules.specs.PriorityBits.{from_3_to_8, misfit_first}
+use Rattle.rules.proofs.PriorityBits.{from_3_to_8, misfit_first}
 use Rattle.demand3.proofs.Demand3.{most_nested}
 use Rattle.any_chip.specs.declared.State.{State}
 use Rattle.any_chip.specs.View.{model, reply}

@@ -2,8 +2,8 @@
 #![tactic(auto)]
 
 const STDIN_FILENO: i32 = 0;
-const STDOUT_FILENO: i32 = 1;
 
+const STDOUT_FILENO: i32 = 1;
 
 // The buffer has room for a line, so each call ends the script or moves on in it.
 fn run_all(script: &[u8]) {

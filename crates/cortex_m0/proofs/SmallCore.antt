@@ -18,7 +18,8 @@ use Rattle.script.specs.declared.AccessKind.{AccessKind}
 use Rattle.script.specs.declared.Event.TheVariants as event
 use Rattle.rules.specs.declared.System.{System}
 use Rattle.rules.specs.Chip.{chip_m0, is_in}
-use Rattle.rules.specs.Laws.{all, in_all}
+use Rattle.rules.specs.Laws.{all}
+use Rattle.rules.proofs.Laws.{in_all}
 use Rattle.rules.specs.Model.{Model, Answer, refuse, done, stack, top}
 use Rattle.rules.specs.Priorities.{full, group_number, enabled_at, execution, is_negative, privileged}
 use Rattle.rules.specs.Sound.{Sound}

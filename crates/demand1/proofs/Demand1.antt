@@ -19,7 +19,8 @@ use Rattle.rules.specs.declared.System.{System}
 use Rattle.rules.specs.declared.Register.{Register}
 use Rattle.rules.specs.declared.Register.TheVariants as reg
 use Rattle.rules.specs.Chip.{is_armv6m, is_in, fits}
-use Rattle.rules.specs.Laws.{all, in_all}
+use Rattle.rules.specs.Laws.{all}
+use Rattle.rules.proofs.Laws.{in_all}
 use Rattle.rules.specs.Model.{Model, Answer, refuse}
 use Rattle.rules.specs.Priorities.{execution, is_negative, privileged}
 use Rattle.rules.specs.Sound.{is_sound}

@@ -21,7 +21,7 @@ use Rattle.script.specs.Reading.{Numbers, numbers, broken, numbers_at, event_of,
 use Rattle.script.specs.Writing.{event_bytes, fits, write_event, bytes_after}
 use Rattle.frame.specs.declared.Words.{Words}
 use Rattle.frame.specs.Frame.{window_fits, stack_fits, refusal_of, stack_refusal, stacked, stacked_window, unstack_fits, unstack_refusal, unstacked}
-use Rattle.frame.specs.RoundTrip.{stack_refused}
+use Rattle.frame.proofs.RoundTrip.{stack_refused}
 use Rattle.rules.specs.Chip.{is_in}
 use Rattle.demand1.specs.Demand1.{ReadRefused, WriteRefused, StackRefused, UnstackRefused, LentBytes}
 

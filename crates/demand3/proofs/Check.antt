@@ -27,7 +27,7 @@ use Rattle.rules.specs.Model.{Model, Answer, refuse, stack}
 use Rattle.rules.specs.SystemBlock.{kept_vtable, kept_sysctrl, kept_cfgctrl, kept_faultstat, kept_hfaultstat}
 use Rattle.rules.specs.Sound.{flag_sound, byte_sound, count_sound, nested_sound, all_on, all_distinct, unused_sound, sound_nest, sound_flags, sound_system, bare_masks, bare_system, is_bare, is_sized, is_sound, Flags, PriorityBytes, Nested, Places, Counts, SoundSystem, BareMasks, BareSystem, Bare, Sound}
 use Rattle.rules.specs.Step.{act_of, guarded, admitted, step_of}
-use Rattle.rules.specs.Laws.{is_in_mem, mem_is_in, counts_held}
+use Rattle.rules.proofs.Laws.{is_in_mem, mem_is_in, counts_held}
 use Rattle.demand3.proofs.Parts.{kept_byte_zero, down_length, nested_fits}
 
 -- ---- lists of numbers

@@ -10,7 +10,7 @@ use Rattle.priority.specs.declared.Found.{Found}
 use Rattle.priority.specs.declared.Found.TheVariants.{At, Nothing}
 use Rattle.priority.specs.Order.{Distinct, Rising}
 use Rattle.priority.specs.Laws as laws
-use Rattle.priority.specs.Levels.{rising_few}
+use Rattle.priority.proofs.Levels.{rising_few}
 use Rattle.script.specs.declared.Event.{Event}
 use Rattle.script.specs.declared.Event.TheVariants as event
 use Rattle.rules.specs.declared.Chip.{Chip}
@@ -20,7 +20,7 @@ use Rattle.rules.specs.Priorities.{group_number, execution}
 use Rattle.rules.specs.Sound.{Sound}
 use Rattle.rules.specs.Nesting.{chosen, enter, entry_at}
 use Rattle.rules.specs.Step.{step_of, answers_of, run_of}
-use Rattle.rules.specs.PriorityBits.{misfit_first}
+use Rattle.rules.proofs.PriorityBits.{misfit_first}
 use Rattle.bools.specs.Tests.{is_true}
 use Rattle.demand3.specs.Demand3.{Calls, stop, call, moved, ledger, Steady, Claim, Eligible, Best, Entering, Demand3}
 use Rattle.demand3.proofs.Parts.{nested_fits, bytes_kept}

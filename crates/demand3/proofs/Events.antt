@@ -27,7 +27,8 @@ use Rattle.rules.specs.SystemBlock.{kept_faultstat}
 use Rattle.rules.specs.Sound.{Counts, SoundSystem, BareMasks, Sound}
 use Rattle.rules.specs.Events.{levelled, loses_rise, counted, line_call, lost_call, nmi_call, ticked_model, tick_call, skip_call, escalates, forced, noted, raised, fault_exception, fault_status, fault_raised, fault_at, fault_call, svc_at, svc_call, faultmask_written, basepri_raised, control_written, lacks_special, special_written, special_at, special_call}
 use Rattle.demand3.proofs.Words.{inside, faultstat_fields, faultstat_with, hfaultstat_with}
-use Rattle.rules.specs.Laws.{all, in_all, is_line_lem, line_stands}
+use Rattle.rules.specs.Laws.{all}
+use Rattle.rules.proofs.Laws.{in_all, is_line_lem, line_stands}
 use Rattle.rules.specs.SkipLaws.{skip_timer}
 use Rattle.demand3.proofs.Exceptions.{enable_exists}
 use Rattle.demand3.proofs.Parts.{flags_set, counts_more, kept_byte_twice}

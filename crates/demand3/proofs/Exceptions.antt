@@ -15,7 +15,8 @@ use Rattle.rules.specs.declared.Chip.{Chip}
 use Rattle.rules.specs.declared.Place.{Place}
 use Rattle.rules.specs.declared.Place.TheVariants.{Exception, Enable, Line}
 use Rattle.rules.specs.Chip.{is_armv6m, flag_count, exception_count, is_in, configurable, system_exceptions, is_line, exists, has_enable, stands}
-use Rattle.rules.specs.Laws.{is_in_mem, all, in_all}
+use Rattle.rules.specs.Laws.{all}
+use Rattle.rules.proofs.Laws.{is_in_mem, in_all}
 
 -- ---- the numbers that exist
 

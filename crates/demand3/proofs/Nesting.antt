@@ -26,7 +26,7 @@ use Rattle.rules.specs.Sound.{Nested, BareMasks, Sound}
 use Rattle.rules.specs.Events.{pend}
 use Rattle.rules.specs.Nesting.{chosen, entered, returned_masks, repended, returned}
 use Rattle.demand3.specs.Demand3.{drop_top, SamePriorities}
-use Rattle.rules.specs.Laws.{line_stands}
+use Rattle.rules.proofs.Laws.{line_stands}
 use Rattle.demand3.proofs.Exceptions.{stands_below, few_exceptions}
 use Rattle.demand3.proofs.Parts.{flags_set, down_length, down_push, down_top, down_pop, down_place, place_down, places_push, places_pop, nested_push, nested_pop}
 use Rattle.demand3.proofs.Check.{depth_fits}

@@ -17,7 +17,8 @@ use Rattle.flag_words.specs.FlagLaws.{length_put_flags, Named, put_on}
 use Rattle.grouping.specs.Grouping.{kept_byte}
 use Rattle.bools.specs.Every.{below_suc}
 use Rattle.priority.specs.Order.{Rising}
-use Rattle.priority.specs.Levels.{Kept, kept_byte_lem, kept_same}
+use Rattle.priority.specs.Levels.{Kept}
+use Rattle.priority.proofs.Levels.{kept_byte_lem, kept_same}
 use Rattle.rules.specs.declared.Chip.{Chip}
 use Rattle.rules.specs.declared.Place.{Place}
 use Rattle.rules.specs.declared.Place.TheVariants.{Exception}
@@ -26,7 +27,7 @@ use Rattle.rules.specs.Model.{down, top}
 use Rattle.rules.specs.Sound.{Flags, PriorityBytes, Nested, Places, Counts}
 use Rattle.rules.specs.Events.{one_more}
 use Rattle.demand3.specs.Demand3.{drop_top}
-use Rattle.rules.specs.Laws.{is_line_lem, line_stands}
+use Rattle.rules.proofs.Laws.{is_line_lem, line_stands}
 use Rattle.demand3.proofs.Exceptions.{few_exceptions}
 
 pub get_d_fresh {ℓ} : {A : Type ℓ} (k n : ℕ) (a : A) → get_or (replicate k a) n a ≡ a

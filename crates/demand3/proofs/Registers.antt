@@ -38,7 +38,7 @@ use Rattle.rules.specs.Reads.{timer_read, after_read}
 use Rattle.rules.specs.Writes.{timer_written, clearable, bank_written, with_byte, with_bytes, set_or_clear, intctrl_written, syshndctrl_written, apint_written, swtrig_written, stored_written, system_written, word_written, byte_written}
 use Rattle.rules.specs.Registers.{access_refusal, read_call, free_write, written, write_call}
 use Rattle.demand3.proofs.Words.{sysctrl_twice, cfgctrl_twice, faultstat_without, hfaultstat_without}
-use Rattle.rules.specs.Laws.{is_line_lem, line_stands}
+use Rattle.rules.proofs.Laws.{is_line_lem, line_stands}
 use Rattle.demand3.proofs.Parts.{flags_set, flags_put, bytes_set}
 use Rattle.demand3.proofs.Quiet.{Quiet, stay, put_pending, put_enabled, put_priority, put_group_lem, put_timer_lem, put_guard_lem, put_system_lem}
 

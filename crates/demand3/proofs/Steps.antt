@@ -32,7 +32,7 @@ use Rattle.demand3.proofs.Check.{guard_passes}
 use Rattle.demand3.proofs.Quiet.{Quiet, stay}
 use Rattle.demand3.proofs.Events.{line_quiet, lost_quiet, nmi_quiet, tick_quiet, skip_quiet, fault_quiet, svc_quiet, special_quiet}
 use Rattle.demand3.proofs.Registers.{read_call_quiet, write_call_quiet}
-use Rattle.rules.specs.Laws.{link_deep}
+use Rattle.rules.proofs.Laws.{link_deep}
 use Rattle.demand3.proofs.Nesting.{chosen_able, stack_entered, sound_entered, rising_entered, Popped, returned_popped}
 
 pub record Step (c : Chip) (m : Model) (e : Event) (a : Answer) : Type 0 where

@@ -15,7 +15,7 @@ use Rattle.mpu.specs.Pmsav8Laws as registers
 use Rattle.verdicts.specs.declared.Access.{Access}
 use Rattle.verdicts.specs.declared.Access.TheVariants.{Read, Write, Fetch}
 use Rattle.editions.specs.EditionLaws as laws
-use Rattle.editions.specs.Pmsav8Laws as pmsav8
+use Rattle.editions.proofs.Pmsav8Laws as pmsav8
 use Rattle.script.specs.Event.{access_number}
 use Rattle.rules.specs.declared.Chip.{Chip}
 use Rattle.rules.specs.Chip.{is_armv6m, fits, with_bits, with_edition}
@@ -24,7 +24,7 @@ use Rattle.rules.specs.Priorities.{execution, is_negative, privileged}
 use Rattle.rules.specs.Sound.{Sound}
 use Rattle.rules.specs.Map.{block_register, register_at}
 use Rattle.rules.specs.Access.{purpose_of, fits_access, access_at, access_by, access_call}
-use Rattle.rules.specs.PriorityBits.{from_3_to_8}
+use Rattle.rules.proofs.PriorityBits.{from_3_to_8}
 use Rattle.rules.specs.Step.{step_of}
 use Rattle.demand3.proofs.Check.{step_sound}
 use Rattle.demand3.proofs.Demand3.{demand3}

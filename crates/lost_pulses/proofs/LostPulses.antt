@@ -20,7 +20,7 @@ use Rattle.rules.specs.declared.Chip.{Chip}
 use Rattle.rules.specs.Chip.{fits}
 use Rattle.rules.specs.Model.{Model, Answer, refuse, done, fresh, with_lost}
 use Rattle.rules.specs.Sound.{is_sized, is_sound, Counts, Sound}
-use Rattle.rules.specs.Laws.{counts_held}
+use Rattle.rules.proofs.Laws.{counts_held}
 use Rattle.rules.specs.Events.{levelled, loses_rise, one_more, counted, line_call, lost_call}
 use Rattle.rules.specs.Step.{act_of, guarded, admitted, step_of, answers_of, run_of}
 use Rattle.demand3.specs.Demand3.{Calls, stop, call}

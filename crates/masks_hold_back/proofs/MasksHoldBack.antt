@@ -13,7 +13,7 @@ use Rattle.grouping.specs.Grouping.{kept_byte}
 use Rattle.priority.specs.declared.Found.{Found}
 use Rattle.priority.specs.declared.Found.TheVariants.{At, Nothing}
 use Rattle.priority.specs.Laws.{more_masks}
-use Rattle.priority.specs.First.{lower_limit}
+use Rattle.priority.proofs.First.{lower_limit}
 use Rattle.script.specs.declared.Event.{Event}
 use Rattle.script.specs.declared.Event.TheVariants.{Special, Entry}
 use Rattle.rules.specs.declared.Chip.{Chip}

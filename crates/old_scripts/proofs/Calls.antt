@@ -28,7 +28,7 @@ use Rattle.rules.specs.Sound.{Sound}
 use Rattle.rules.specs.Events.{pend, levelled, loses_rise, one_more, counted, line_call, lost_call, nmi_call, ticked_model, tick_call, skip_call, escalates, forced, noted, raised, fault_exception, fault_status, fault_raised, fault_at, fault_call, svc_at, svc_call, control_written, lacks_special, special_written, special_at, special_call}
 use Rattle.rules.specs.Nesting.{chosen, link_of, with_spsel, entered, enter, entry_at, entry_call, link_fits, returned_masks, repended, returned, return_call}
 use Rattle.rules.specs.Access.{fits_access, access_at, access_by, access_call}
-use Rattle.rules.specs.Laws.{link_deep}
+use Rattle.rules.proofs.Laws.{link_deep}
 use Rattle.rules.specs.SkipLaws.{skip_timer}
 use Rattle.demand3.proofs.Nesting.{execution_nest, chosen_below, top_below}
 use Rattle.old_scripts.specs.Alike.{Same, Alike}

@@ -20,7 +20,7 @@ use Rattle.rules.specs.Chip.{fits}
 use Rattle.rules.specs.Model.{Model, Answer}
 use Rattle.rules.specs.Sound.{is_sound, Sound}
 use Rattle.rules.specs.Step.{act_of, run_of}
-use Rattle.rules.specs.PriorityBits.{misfit_first}
+use Rattle.rules.proofs.PriorityBits.{misfit_first}
 use Rattle.demand3.proofs.Check.{sound_of, step_sound}
 use Rattle.demand3.proofs.Steps.{act_sound}
 use Rattle.text.specs.Text.{line_of, lines_of, script_text, admitted_text}

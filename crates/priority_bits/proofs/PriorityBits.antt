@@ -8,15 +8,15 @@ use native.Mathlib.Omega.{arith}
 use lib.ListN.{length}
 use lib.Dec.{leb, leb→le}
 use Rattle.bools.specs.Tests.{is_true, true_is, both}
-use Rattle.priority.specs.Counting.{three_bits, levels_count}
+use Rattle.priority.proofs.Counting.{three_bits, levels_count}
 use Rattle.rules.specs.declared.Chip.{Chip}
 use Rattle.rules.specs.Chip.{chip55, chip240, is_armv6m, with_bits, fits, exception_count}
-use Rattle.rules.specs.PriorityBits.{from_3_to_8, misfit_first}
+use Rattle.rules.proofs.PriorityBits.{from_3_to_8, misfit_first}
 use Rattle.rules.proofs.Table.{starred_holds, further_holds, added_holds}
 use Rattle.demand3.specs.Demand3.{ledger}
 use Rattle.demand3.proofs.Demand3.{most_nested, demand3}
 use Rattle.old_scripts.proofs.OldScripts.{old_scripts}
-use Rattle.text.specs.Text.{misfit_text}
+use Rattle.text.proofs.Text.{misfit_text}
 use Rattle.priority_bits.specs.PriorityBits.{ForEach, PriorityBits}
 use Rattle.priority_bits.proofs.Cases.{cases_hold}
 

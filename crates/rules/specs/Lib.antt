@@ -18,6 +18,3 @@ pub mod Laws
 pub mod Table
 pub mod LineLaws
 pub mod SkipLaws
-pub mod Chip240
-pub mod PriorityBits
-pub mod CortexM0

@@ -38,7 +38,7 @@ numbers_written (n ∷ ns) pre post w =
     let same : pre ++ ((number_bytes n ++ numbers_bytes ns) ++ post) ≡ all = simp append_assoc in
     let one = number_written n pre (numbers_bytes ns ++ post) w.0 in
     let ih : numbers_at all (length pre + length (number_bytes n)) (length ns) ≡ numbers ns (length pre + length (number_bytes n) + length (numbers_bytes ns)) =
-        simp (append_assoc, length-append) at (numbers_written ns (pre ++ number_bytes n) post w.1) in
+    simp (append_assoc, length-append) at (numbers_written ns (pre ++ number_bytes n) post w.1) in
     let sum : length pre + length (number_bytes n) + length (numbers_bytes ns) ≡ length pre + length (number_bytes n ++ numbers_bytes ns) = simp length-append (omega arith) in
     subst (λ (b : List ℕ). numbers_at b (length pre) (suc (length ns)) ≡ numbers (n ∷ ns) (length pre + length (number_bytes n ++ numbers_bytes ns))) (sym same)
     (ap (λ (r : Number). then r (λ next. numbers_at all next (length ns))) one ∙ ap (before n) (ih ∙ ap (numbers ns) sum))

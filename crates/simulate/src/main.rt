@@ -4,6 +4,7 @@
 use rules::Setup;
 
 const STDIN_FILENO: i32 = 0;
+
 const STDOUT_FILENO: i32 = 1;
 
 // The buffer has room for a line, so each call ends the script or moves on in it.

@@ -5,7 +5,7 @@ use lib.ListN.{length}
 use lib.IntN.{ℤ}
 use Rattle.rules.specs.declared.Chip.{Chip}
 use Rattle.rules.specs.Model.{Model}
-use Rattle.rules.specs.Laws.{few_exist, vtable_below}
+use Rattle.rules.proofs.Laws.{few_exist, vtable_below}
 use Rattle.demand3.proofs.Check.{depth_fits}
 use Rattle.step.specs.Ready.{Ready}
 

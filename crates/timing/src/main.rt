@@ -6,6 +6,7 @@ use model::State;
 use script::ReadEvent;
 
 const STDIN_FILENO: i32 = 0;
+
 const STDOUT_FILENO: i32 = 1;
 
 const TIMES: u64 = 100;

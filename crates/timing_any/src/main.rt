@@ -8,6 +8,7 @@ use rules::Setup;
 use script::ReadEvent;
 
 const STDIN_FILENO: i32 = 0;
+
 const STDOUT_FILENO: i32 = 1;
 
 const TIMES: u64 = 100;

@@ -10,5 +10,5 @@ use Rattle.decimal.proofs.put_broken.Goals as goal
 pub returns-clause-puts : goal.returns-clause-puts
 unfolding broken_text
 returns-clause-puts c = let h : c.args.at ≤ length c.args.out.now = omega arith in puts_append h
-          (puts_append h (puts_append h (puts_append h c.put_text-a.ensures c.put_decimal-b.ensures.puts) c.put_text-c.ensures) c.put_decimal-d.ensures.puts)
-          (puts_one c.put_decimal-d.result newline c.put_decimal-d.new.out (omega arith))
+    (puts_append h (puts_append h (puts_append h c.put_text-a.ensures c.put_decimal-b.ensures.puts) c.put_text-c.ensures) c.put_decimal-d.ensures.puts)
+    (puts_one c.put_decimal-d.result newline c.put_decimal-d.new.out (omega arith))

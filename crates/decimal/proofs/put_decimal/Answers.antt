@@ -52,13 +52,13 @@ pub returns-clause-puts : goal.returns-clause-puts
 returns-clause-puts c = let d = digits_small c.loop-rest.rest c.loop-rest-test.false in
     let e : c.loop-rest.last ≡ c.args.at = omega (arith, ap length d) in
     let r = decimal_room_lem c.loop-rest.rest (omega arith) in record {
-        next_is = ap (λ (n : ℕ). c.args.at + n) c.places.ensures;
-        bytes =
-            ap (λ (i : ℕ). set c.loop-rest.out i (digit c.loop-rest.rest)) e
-            ∙ written_one c.args.at (digit c.loop-rest.rest) c.loop-rest.out (omega arith)
-            ∙ ap (λ (x : List ℕ). written c.args.at x c.loop-rest.out) (sym d)
-            ∙ c.loop-rest.invariant.1.1.1;
-      }
+      next_is = ap (λ (n : ℕ). c.args.at + n) c.places.ensures;
+      bytes =
+          ap (λ (i : ℕ). set c.loop-rest.out i (digit c.loop-rest.rest)) e
+          ∙ written_one c.args.at (digit c.loop-rest.rest) c.loop-rest.out (omega arith)
+          ∙ ap (λ (x : List ℕ). written c.args.at x c.loop-rest.out) (sym d)
+          ∙ c.loop-rest.invariant.1.1.1;
+    }
 
 pub returns-clause-within : goal.returns-clause-within
 returns-clause-within c = let d = digits_small c.loop-rest.rest c.loop-rest-test.false in

@@ -12,5 +12,5 @@ pub returns-clause-puts : goal.returns-clause-puts
 unfolding line_text
 returns-clause-puts c = let h : c.args.at ≤ length c.args.out.now = omega arith in
     let fields = puts_append h (puts_append h (puts_append h c.put_field-a.ensures.puts c.put_field-b.ensures.puts) c.put_field-c.ensures.puts) c.put_field-d.ensures.puts in puts_append h
-          (puts_append h fields (simp (to_z-of_z c.ranges.priority) at c.put_signed-end.ensures.puts))
-          (puts_one c.put_signed-end.result newline c.put_signed-end.new.out (omega arith))
+    (puts_append h fields (simp (to_z-of_z c.ranges.priority) at c.put_signed-end.ensures.puts))
+    (puts_one c.put_signed-end.result newline c.put_signed-end.new.out (omega arith))

@@ -11,14 +11,13 @@ unfolding frame_bytes
 loop-k-init c = (omega arith, (c.requires.1, (c.requires.0, refl)))
 
 pub loop-k-preserved : goal.loop-k-preserved
-loop-k-preserved c =
+loop-k-preserved c = (
+  omega arith,
+  (
+    c.loop-k.invariant.1.0,
     (
-      omega arith,
-      (
-        c.loop-k.invariant.1.0,
-        (
-          c.put_word.auto.part ∙ c.loop-k.invariant.1.1.0,
-          c.put_word.ensures ∙ rw c.loop-k.invariant.1.1.1 (frame_step c.args.words.now c.args.part.now c.loop-k.k c.loop-k.invariant.1.0 (omega arith) (omega arith)),
-        ),
-      ),
-    )
+      c.put_word.auto.part ∙ c.loop-k.invariant.1.1.0,
+      c.put_word.ensures ∙ rw c.loop-k.invariant.1.1.1 (frame_step c.args.words.now c.args.part.now c.loop-k.k c.loop-k.invariant.1.0 (omega arith) (omega arith)),
+    ),
+  ),
+)

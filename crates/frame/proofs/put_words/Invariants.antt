@@ -8,7 +8,7 @@ use Rattle.std.proofs.Common.{◌+◌}
 use Rattle.frame.proofs.put_words.Given as goal
 
 abbrev pub invariant-loop-k : goal.invariant-loop-k
-invariant-loop-k l =    (l.k ≤ 8) × ((length l.words ≡ 8) × ((length l.part ≡ 32) × (l.part ≡ frame_bytes (take l.k l.words) ++ drop (4 * l.k) l.initial.part)))
+invariant-loop-k l = (l.k ≤ 8) × ((length l.words ≡ 8) × ((length l.part ≡ 32) × (l.part ≡ frame_bytes (take l.k l.words) ++ drop (4 * l.k) l.initial.part)))
 
 abbrev pub decreases-loop-k : goal.decreases-loop-k
 decreases-loop-k l = 8 - l.k

@@ -4,7 +4,8 @@ use native.Mathlib.Omega.{arith}
 use lib.ListN.{length}
 use borrow.Author.Tests.{eq-eqb, ne_eqb}
 use Rattle.frame.specs.Frame.{unstack_refusal, unstacked}
-use Rattle.frame.specs.Accepted.{UnstackAccepted, unstack_accepted}
+use Rattle.frame.specs.Accepted.{UnstackAccepted}
+use Rattle.frame.proofs.Accepted.{unstack_accepted}
 use Rattle.std.proofs.Common.{◌-◌, true, false}
 use Rattle.frame.specs.Frame.{window_fits, restored_sp, unstack_fits, no_words}
 use Rattle.frame.proofs.unstack.Goals as goal

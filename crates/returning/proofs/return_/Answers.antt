@@ -3,7 +3,7 @@ use Rattle.returning.proofs.Laws.{sub_one}
 use mathlib.Core.Path.{◌∙◌, sym}
 use Rattle.bools.specs.Tests.{is_true}
 use Rattle.rules.specs.Nesting.{return_call}
-use Rattle.rules.specs.Laws.{link_deep}
+use Rattle.rules.proofs.Laws.{link_deep}
 use Rattle.std.proofs.Common.{true, ◌-◌, false}
 use Rattle.returning.proofs.return_.Goals as goal
 

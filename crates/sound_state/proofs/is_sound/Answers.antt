@@ -3,7 +3,7 @@ use mathlib.Core.Path.{◌∙◌, sym}
 use native.Mathlib.Omega.{arith}
 use Rattle.rules.specs.Lent.{model_of}
 use Rattle.rules.specs.Sound.{is_sound}
-use Rattle.rules.specs.Laws.{counts_held}
+use Rattle.rules.proofs.Laws.{counts_held}
 use Rattle.sound_state.proofs.Laws.{sized}
 use Rattle.std.proofs.Common.{◌-◌, true, false}
 use Rattle.rules.specs.Sound.{is_sized}

@@ -21,14 +21,13 @@ returns-then-once c =
     sym (second_one _ _ _ c.loop-i.i c.loop-i.once c.loop-i.rbar c.loop-i.invariant.1 c.if-once.true (sym c.covers.ensures ∙ c.if-covers.true) _ (omega arith) _ _ _)
 
 pub loop-i-preserved : goal.loop-i-preserved
-loop-i-preserved c =
-    (
-      omega arith,
-      elim c.if-covers.branch [
-        then-covers+else-once w ↦ rw (add-one, w.once-is, w.rbar-is) (first_one c.args.rbars.now c.args.rlars.now c.args.address c.loop-i.i c.loop-i.once c.loop-i.rbar c.loop-i.invariant.1 w.if-once.false (sym c.covers.ensures ∙ w.if-covers.true))
-      | else-covers w ↦ rw (add-one, w.once-is, w.rbar-is) (not_one c.args.rbars.now c.args.rlars.now c.args.address c.loop-i.i c.loop-i.once c.loop-i.rbar c.loop-i.invariant.1 (sym c.covers.ensures ∙ w.if-covers.false))
-      ],
-    )
+loop-i-preserved c = (
+  omega arith,
+  elim c.if-covers.branch [
+    | then-covers+else-once w ↦ rw (add-one, w.once-is, w.rbar-is) (first_one c.args.rbars.now c.args.rlars.now c.args.address c.loop-i.i c.loop-i.once c.loop-i.rbar c.loop-i.invariant.1 w.if-once.false (sym c.covers.ensures ∙ w.if-covers.true))
+    | else-covers w ↦ rw (add-one, w.once-is, w.rbar-is) (not_one c.args.rbars.now c.args.rlars.now c.args.address c.loop-i.i c.loop-i.once c.loop-i.rbar c.loop-i.invariant.1 (sym c.covers.ensures ∙ w.if-covers.false))
+  ],
+)
 
 pub returns-then-once-2 : goal.returns-then-once-2
 returns-then-once-2 c =

@@ -6,7 +6,7 @@ use Rattle.editions.proofs.Laws.{Known}
 use Rattle.editions.proofs.pmsav8.covers_allow.Given as goal
 
 abbrev pub invariant-loop-i : goal.invariant-loop-i
-invariant-loop-i l =    (l.i ≤ length l.rlars) × Known l.rbars (tally (covers_at l.rbars l.rlars l.address) l.i) l.once l.rbar
+invariant-loop-i l = (l.i ≤ length l.rlars) × Known l.rbars (tally (covers_at l.rbars l.rlars l.address) l.i) l.once l.rbar
 
 abbrev pub decreases-loop-i : goal.decreases-loop-i
 decreases-loop-i l = length l.rlars - l.i

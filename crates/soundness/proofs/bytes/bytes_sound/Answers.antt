@@ -14,7 +14,7 @@ use Rattle.rules.specs.declared.Chip.{Chip}
 use Rattle.rules.specs.declared.Place.TheVariants.{Exception}
 use Rattle.rules.specs.Chip.{flag_count, exists, has_byte}
 use Rattle.rules.specs.Sound.{byte_sound}
-use Rattle.rules.specs.Laws.{is_line_lem, line_stands}
+use Rattle.rules.proofs.Laws.{is_line_lem, line_stands}
 use Rattle.soundness.proofs.bytes.bytes_sound.Goals as goal
 
 abbrev kept : Chip → List ℕ → ℕ → Bool

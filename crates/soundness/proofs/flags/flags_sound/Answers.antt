@@ -13,7 +13,7 @@ use Rattle.flag_words.specs.Flags.{on}
 use Rattle.rules.specs.declared.Chip.{Chip}
 use Rattle.rules.specs.declared.Place.{Place}
 use Rattle.rules.specs.Chip.{flag_count, stands}
-use Rattle.rules.specs.Laws.{is_line_lem, line_stands}
+use Rattle.rules.proofs.Laws.{is_line_lem, line_stands}
 use Rattle.rules.specs.Sound.{flag_sound}
 use Rattle.soundness.proofs.flags.flags_sound.Goals as goal
 

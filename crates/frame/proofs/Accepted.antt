@@ -1,0 +1,70 @@
+-- Refusals 12 and 11 in exactly their cases: a stacking or an unstacking is accepted just where each fact below holds.
+use Rattle.std.specs.Prelude.{ℕ, ◌+◌, ◌%◌, ◌^◌, ◌≡◌, refl, Bool, true, false, ◌&&◌, leb, ltb, eqb}
+use Rattle.std.proofs.Math.Bool.{and-eq-true_iff}
+use Rattle.std.proofs.Common.{arith, leb-true, ltb-true, eqb-true, le-leb, lt-ltb, eq-eqb}
+use Rattle.frame.specs.Frame.{window_fits, holds_frame, frame_at, stack_fits, refusal_of, stack_refusal, unstack_fits, unstack_refusal}
+use Rattle.frame.specs.Accepted.{Fits, Holds, StackAccepted, UnstackAccepted}
+
+pub fits_of : (base len : ℕ) → window_fits base len ≡ true → Fits base len
+unfolding window_fits
+fits_of base len e =
+    let f = (and-eq-true_iff (leb len 65536 && eqb (base % 4) 0) (leb (base + len) (2 ^ 32))).0 e in
+    let g = (and-eq-true_iff (leb len 65536) (eqb (base % 4) 0)).0 f.0 in
+    record { short = leb-true _ _ g.0; base4 = eqb-true _ _ g.1; ends = leb-true _ _ f.1 }
+
+pub of_fits : (base len : ℕ) → Fits base len → window_fits base len ≡ true
+unfolding window_fits
+of_fits base len f = simp (le-leb len 65536 f.short, eq-eqb (base % 4) 0 f.base4, le-leb (base + len) (2 ^ 32) f.ends)
+
+pub holds_of : (base len frame : ℕ) → holds_frame base len frame ≡ true → Holds base len frame
+unfolding holds_frame
+holds_of base len frame e =
+    let f = (and-eq-true_iff (leb base frame) (leb (frame + 32) (base + len))).0 e in
+    record { from = leb-true _ _ f.0; upto = leb-true _ _ f.1 }
+
+pub of_holds : (base len frame : ℕ) → Holds base len frame → holds_frame base len frame ≡ true
+unfolding holds_frame
+of_holds base len frame h = simp (le-leb base frame h.from, le-leb (frame + 32) (base + len) h.upto)
+
+-- 0 only where both tests pass
+both : (window frame : Bool) → refusal_of window frame ≡ 0 → (window ≡ true) × (frame ≡ true)
+unfolding refusal_of
+both true true e = (refl, refl)
+both true false e = let z : ⊥ = omega arith in absurd z
+both false frame e = let z : ⊥ = omega arith in absurd z
+
+pub stack_accepted : (base len sp : ℕ) (align : Bool) → stack_refusal base len sp align ≡ 0 → StackAccepted base len sp align
+unfolding stack_fits
+stack_accepted base len sp align e =
+    let f = both (window_fits base len) (stack_fits base len sp align) e in
+    let g = (and-eq-true_iff (eqb (sp % 4) 0 && leb 32 sp) (holds_frame base len (frame_at align sp))).0 f.1 in
+    let h = (and-eq-true_iff (eqb (sp % 4) 0) (leb 32 sp)).0 g.0 in
+    record {
+      window = fits_of base len f.0;
+      sp4 = eqb-true _ _ h.0;
+      room = leb-true _ _ h.1;
+      holds = holds_of base len (frame_at align sp) g.1;
+    }
+
+pub unstack_accepted : (base len sp : ℕ) → unstack_refusal base len sp ≡ 0 → UnstackAccepted base len sp
+unfolding unstack_fits
+unstack_accepted base len sp e =
+    let f = both (window_fits base len) (unstack_fits base len sp) e in
+    let g = (and-eq-true_iff (eqb (sp % 4) 0 && holds_frame base len sp) (ltb (sp + 32) (2 ^ 32))).0 f.1 in
+    let h = (and-eq-true_iff (eqb (sp % 4) 0) (holds_frame base len sp)).0 g.0 in
+    record {
+      window = fits_of base len f.0;
+      sp4 = eqb-true _ _ h.0;
+      holds = holds_of base len sp h.1;
+      restored = ltb-true _ _ g.1;
+    }
+
+pub accepted_unstack : (base len sp : ℕ) → UnstackAccepted base len sp → unstack_refusal base len sp ≡ 0
+unfolding unstack_fits refusal_of
+accepted_unstack base len sp a =
+    simp (
+      of_fits base len a.window,
+      eq-eqb (sp % 4) 0 a.sp4,
+      of_holds base len sp a.holds,
+      lt-ltb (sp + 32) (2 ^ 32) a.restored,
+    )
