@@ -3,8 +3,8 @@
 #![tactic(auto)]
 
 mod idle;
+mod lost_counts;
 mod nesting;
-mod pulses;
 mod registers;
 mod same;
 mod show;
@@ -22,8 +22,8 @@ fn main() {
     soundness::cases(Part::Lines240);
     nesting::nest(Part::Lines240);
     nesting::nest(Part::Lines55);
-    pulses::lost(Part::Lines55, 54, 55);
-    pulses::lost(Part::Lines240, 239, 240);
+    lost_counts::lost(Part::Lines55, 54, 55);
+    lost_counts::lost(Part::Lines240, 239, 240);
     idle::skips(Part::Lines55);
     idle::skips(Part::Lines240);
     widths::kept();

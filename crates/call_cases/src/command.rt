@@ -1,7 +1,7 @@
 // The commands. Every event is run by the call of its kind, and by `step` besides.
 use super::parse::{next_word, skip_spaces};
-use super::pieces::{scripted, too_long};
 use super::poke::{filled, poked};
+use super::scripts::{scripted, too_long};
 use super::show::{alike, answer, masks};
 use model::{Reply, State};
 use script::{AccessKind, Event};

@@ -7,9 +7,9 @@ use model::State;
 
 mod command;
 mod parse;
-mod pieces;
 mod poke;
 mod same;
+mod scripts;
 mod show;
 
 const STDIN_FILENO: i32 = 0;

@@ -3,8 +3,6 @@ use mathlib.Core.Path.{◌∙◌, sym}
 use mir.Facts.{to_z-of_z}
 use borrow.Author.Tests.{lt-ltb, le-ltb}
 use Rattle.rules.specs.Access.{access_at}
-use Rattle.std.proofs.Common.{◌-◌, true, false}
-use Rattle.rules.specs.Access.{fits_access}
 use Rattle.access.proofs.access.Goals as goal
 
 pub returns-then-kind-gt2 : goal.returns-then-kind-gt2

@@ -2,7 +2,6 @@
 use mathlib.Core.Path.{◌∙◌, sym}
 use mir.Facts.{to_z-of_z}
 use Rattle.rules.specs.Access.{access_by}
-use Rattle.std.proofs.Common.{◌-◌, true, false}
 use Rattle.access.proofs.access_by.Goals as goal
 
 pub returns-then-is_armv6m : goal.returns-then-is_armv6m

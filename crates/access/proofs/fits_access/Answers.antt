@@ -2,7 +2,6 @@
 use mathlib.Core.Path.{◌∙◌}
 use borrow.Author.Tests.{eq-eqb, ne_eqb}
 use Rattle.rules.specs.Access.{fits_access}
-use Rattle.std.proofs.Common.{◌-◌, true, false}
 use Rattle.access.proofs.fits_access.Goals as goal
 
 pub returns-then-kind-eq2 : goal.returns-then-kind-eq2

@@ -2,7 +2,6 @@
 use mathlib.Core.Path.{ap, sym}
 use borrow.Author.Tests.{ne_eqb}
 use Rattle.rules.specs.Access.{purpose_of}
-use Rattle.std.proofs.Common.{◌-◌}
 use Rattle.access.proofs.purpose_of.Goals as goal
 
 pub returns-in-0 : goal.returns-in-0

@@ -4,7 +4,6 @@ use Rattle.any_chip.specs.ViewLaws.{Sized}
 use Rattle.any_chip.proofs.View.{Within, within, front}
 use Rattle.any_run.proofs.Laws.{run_back}
 use borrow.Author.Rules.{rules}
-use Rattle.std.proofs.Common.{◌-◌}
 use Rattle.any_run.proofs.run_some.Goals as goal
 
 pub slice_bounds-pending-end : goal.slice_bounds-pending-end

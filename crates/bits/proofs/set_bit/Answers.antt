@@ -4,7 +4,6 @@ use mathlib.Core.Bool.{true, false}
 use Rattle.bits.specs.Words.{bit_at}
 use Rattle.bits.specs.WordLaws.{with_bit_as_is, with_bit_lt}
 use Rattle.bits.proofs.Laws.{one_shl, add_bit}
-use Rattle.std.proofs.Common.{◌-◌}
 use Rattle.bits.proofs.set_bit.Goals as goal
 
 pub returns-then-test_bit : goal.returns-then-test_bit

@@ -2,7 +2,6 @@
 use mathlib.Core.Path.{◌∙◌}
 use borrow.Author.Tests.{eq-eqb, ne_eqb}
 use Rattle.rules.specs.Writes.{apint_written}
-use Rattle.std.proofs.Common.{◌-◌, true, false}
 use Rattle.control.proofs.apint_written.Goals as goal
 
 pub returns-then-field-eq1530 : goal.returns-then-field-eq1530

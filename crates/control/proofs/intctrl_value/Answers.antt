@@ -1,5 +1,4 @@
 -- Term by term.
-use Rattle.std.proofs.Common.{◌-◌}
 use Rattle.rules.specs.Reads.{intctrl_value}
 use Rattle.control.proofs.intctrl_value.Goals as goal
 

@@ -1,8 +1,6 @@
 -- The three pairs in the definition's order.
 use mathlib.Core.Path.{◌∙◌}
 use Rattle.rules.specs.Writes.{intctrl_written}
-use Rattle.std.proofs.Common.{◌-◌}
-use Rattle.rules.specs.Writes.{set_or_clear}
 use Rattle.control.proofs.intctrl_written.Goals as goal
 
 pub returns : goal.returns

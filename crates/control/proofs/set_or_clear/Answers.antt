@@ -1,7 +1,6 @@
 -- By the definition's own tests.
 use mathlib.Core.Path.{◌∙◌}
 use Rattle.rules.specs.Writes.{set_or_clear}
-use Rattle.std.proofs.Common.{◌-◌, true, false}
 use Rattle.control.proofs.set_or_clear.Goals as goal
 
 pub returns-then-clears : goal.returns-then-clears

@@ -2,7 +2,6 @@
 use mathlib.Core.Path.{◌∙◌}
 use borrow.Author.Tests.{le-ltb, lt-ltb}
 use Rattle.rules.specs.Writes.{swtrig_written}
-use Rattle.std.proofs.Common.{◌-◌, true, false}
 use Rattle.control.proofs.swtrig_written.Goals as goal
 
 pub returns-then-line-chip : goal.returns-then-line-chip

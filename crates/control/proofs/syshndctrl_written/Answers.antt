@@ -1,7 +1,6 @@
 -- The three flags in the definition's order.
 use mathlib.Core.Path.{◌∙◌}
 use Rattle.rules.specs.Writes.{syshndctrl_written}
-use Rattle.std.proofs.Common.{◌-◌}
 use Rattle.control.proofs.syshndctrl_written.Goals as goal
 
 pub returns : goal.returns

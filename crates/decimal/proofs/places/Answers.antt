@@ -3,7 +3,6 @@ use mathlib.Core.Path.{sym, ap}
 use native.Mathlib.Omega.{arith}
 use lib.ListN.{length}
 use Rattle.decimal.specs.Laws.{digits_small, digits_length}
-use Rattle.std.proofs.Common.{◌-◌}
 use Rattle.decimal.proofs.places.Goals as goal
 
 pub returns-in-0-to-9 : goal.returns-in-0-to-9

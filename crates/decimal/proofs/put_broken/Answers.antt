@@ -4,7 +4,6 @@ use native.Mathlib.Omega.{arith}
 use lib.ListN.{length}
 use Rattle.decimal.specs.Decimal.{broken_text, newline}
 use Rattle.decimal.specs.Written.{puts_append, puts_one}
-use Rattle.std.proofs.Common.{◌-◌}
 use Rattle.decimal.proofs.put_broken.Goals as goal
 
 pub returns-clause-puts : goal.returns-clause-puts

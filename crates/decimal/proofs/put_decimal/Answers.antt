@@ -7,7 +7,6 @@ use lib.ListN.{length, set, length-set, length-append}
 use Rattle.decimal.specs.Decimal.{digit, digits}
 use Rattle.decimal.specs.Laws.{digits_small, digits_step, digits_some, decimal_room_lem}
 use Rattle.decimal.specs.Written.{written, written_one, written_last}
-use Rattle.std.proofs.Common.{◌-◌, true, false}
 use Rattle.decimal.proofs.put_decimal.Goals as goal
 
 ends : (at rest last : ℕ) → 10 ≤ rest → last + 1 ≡ at + length (digits rest) → last ≡ at + length (digits (rest / 10))

@@ -4,7 +4,6 @@ use mathlib.Core.Path.{◌≡◌}
 use lib.ListN.{length}
 use Rattle.decimal.specs.Decimal.{digits}
 use Rattle.decimal.specs.Written.{written}
-use Rattle.std.proofs.Common.{◌-◌}
 use Rattle.decimal.proofs.put_decimal.Given as goal
 
 abbrev pub invariant-loop-rest : goal.invariant-loop-rest

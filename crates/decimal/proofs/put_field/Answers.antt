@@ -2,7 +2,6 @@
 use native.Mathlib.Omega.{arith}
 use Rattle.decimal.specs.Decimal.{space}
 use Rattle.decimal.specs.Written.{puts_append, puts_one}
-use Rattle.std.proofs.Common.{◌-◌}
 use Rattle.decimal.proofs.put_field.Goals as goal
 
 pub returns-clause-puts : goal.returns-clause-puts

@@ -5,7 +5,6 @@ use lib.ListN.{length}
 use mir.Facts.{to_z-of_z}
 use Rattle.decimal.specs.Decimal.{line_text, newline}
 use Rattle.decimal.specs.Written.{puts_append, puts_one}
-use Rattle.std.proofs.Common.{◌-◌}
 use Rattle.decimal.proofs.put_line.Goals as goal
 
 pub returns-clause-puts : goal.returns-clause-puts

@@ -4,7 +4,6 @@ use mir.Facts.{to_z-of_z}
 use Rattle.decimal.specs.Decimal.{minus}
 use Rattle.decimal.specs.Written.{puts_append, puts_one}
 use Rattle.decimal.proofs.Signs.{signed_below, signed_above}
-use Rattle.std.proofs.Common.{◌-◌, true, false}
 use Rattle.decimal.proofs.put_signed.Goals as goal
 
 pub returns-then-z-lt0-clause-puts : goal.returns-then-z-lt0-clause-puts

@@ -3,7 +3,6 @@ use mathlib.Core.Path.{◌≡◌, ◌∙◌}
 use lib.ListN.{length}
 use Rattle.editions.specs.Editions.{guard_allows}
 use borrow.Author.Rules.{rules}
-use Rattle.std.proofs.Common.{◌-◌}
 use Rattle.editions.proofs.guard_allows.Goals as goal
 
 pub returns-in-Pmsav7 : goal.returns-in-Pmsav7

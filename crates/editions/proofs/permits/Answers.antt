@@ -1,8 +1,6 @@
 -- By the same tests in the same order.
 use mathlib.Core.Path.{sym, ◌∙◌}
 use Rattle.editions.specs.Editions.{guard_permits}
-use Rattle.std.proofs.Common.{◌-◌, true, false}
-use Rattle.editions.specs.Editions.{guard_allows}
 use Rattle.editions.proofs.permits.Goals as goal
 
 pub returns-then-system_fetch : goal.returns-then-system_fetch

@@ -1,7 +1,6 @@
 -- By what the guard permits.
 use mathlib.Core.Path.{sym, ◌∙◌}
 use Rattle.editions.specs.Editions.{guard_verdict}
-use Rattle.std.proofs.Common.{◌-◌, true, false}
 use Rattle.editions.proofs.verdict.Goals as goal
 
 pub returns-then-permits : goal.returns-then-permits

@@ -1,7 +1,6 @@
 -- The number, its vector and the link value; each part as the definition says.
 use native.Mathlib.Numerals.{add-one}
 use Rattle.rules.specs.Nesting.{entered}
-use Rattle.std.proofs.Common.{◌-◌}
 use Rattle.entry.proofs.enter.Goals as goal
 
 pub returns : goal.returns

@@ -6,8 +6,6 @@ use Rattle.priority.specs.Order.{flag_below}
 use Rattle.priority.specs.Laws.{pending_best}
 use Rattle.rules.specs.Nesting.{entry_at}
 use Rattle.rules.specs.Model.{with_enabled, with_priority}
-use Rattle.std.proofs.Common.{◌-◌}
-use Rattle.rules.specs.Nesting.{enter}
 use Rattle.entry.proofs.entry.Goals as goal
 
 pub enter-requires : goal.enter-requires

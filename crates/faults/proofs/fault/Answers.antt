@@ -3,7 +3,6 @@ use mathlib.Core.Path.{◌∙◌, sym}
 use mir.Facts.{to_z-of_z}
 use Rattle.rules.specs.Events.{fault_at}
 use Rattle.faults.proofs.Laws.{fault_bounds}
-use Rattle.std.proofs.Common.{◌-◌}
 use Rattle.faults.proofs.fault.Goals as goal
 
 pub fault_at-requires : goal.fault_at-requires

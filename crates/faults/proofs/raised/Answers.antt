@@ -2,7 +2,6 @@
 use mathlib.Core.Path.{◌∙◌, sym}
 use mir.Facts.{to_z-of_z}
 use Rattle.rules.specs.Events.{escalates, raised}
-use Rattle.std.proofs.Common.{◌-◌, true, false}
 use Rattle.faults.proofs.raised.Goals as goal
 
 pub returns-then-escalates : goal.returns-then-escalates

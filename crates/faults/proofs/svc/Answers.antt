@@ -2,8 +2,6 @@
 use mathlib.Core.Path.{◌∙◌}
 use mir.Facts.{to_z-of_z}
 use Rattle.rules.specs.Events.{svc_at}
-use Rattle.std.proofs.Common.{◌-◌, true, false}
-use Rattle.rules.specs.Events.{raised}
 use Rattle.faults.proofs.svc.Goals as goal
 
 pub returns-then-limit-lt0 : goal.returns-then-limit-lt0

@@ -7,7 +7,6 @@ use Rattle.flag_words.specs.Flags.{on}
 use Rattle.bits.specs.WordLaws.{bit_le}
 use Rattle.flag_words.specs.FlagLaws.{word_lt, word_past_end}
 use Rattle.flag_words.proofs.Laws.{word_at_end, word_step}
-use Rattle.std.proofs.Common.{true}
 use Rattle.flag_words.proofs.flags_word.Goals as goal
 
 pub returns-then-flags-at : goal.returns-then-flags-at

@@ -1,6 +1,5 @@
 -- Named or not, by the definition's own test.
 use Rattle.flag_words.specs.Flags.{put_flag}
-use Rattle.std.proofs.Common.{◌-◌, true, false}
 use Rattle.flag_words.proofs.put_flag.Goals as goal
 
 pub returns-then-named : goal.returns-then-named

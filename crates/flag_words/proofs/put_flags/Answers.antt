@@ -4,8 +4,6 @@ use mathlib.Core.Path.{◌≡◌, sym, ◌∙◌}
 use native.Mathlib.Omega.{arith}
 use Rattle.flag_words.specs.FlagLaws.{put_none, put_past_end}
 use Rattle.flag_words.proofs.Laws.{put_step}
-use Rattle.std.proofs.Common.{true, false}
-use Rattle.flag_words.specs.Flags.{put_flag}
 use Rattle.flag_words.proofs.put_flags.Goals as goal
 
 pub loop-w-preserved : goal.loop-w-preserved

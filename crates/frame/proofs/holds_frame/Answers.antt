@@ -3,7 +3,6 @@ use Rattle.frame.specs.Frame.{holds_frame}
 use mathlib.Core.Path.{◌∙◌}
 use borrow.Author.Tests.{le-leb, lt-leb}
 use Rattle.frame.proofs.Laws.{by_offset}
-use Rattle.std.proofs.Common.{◌-◌, true, false}
 use Rattle.frame.proofs.holds_frame.Goals as goal
 
 pub returns-then-frame-base : goal.returns-then-frame-base

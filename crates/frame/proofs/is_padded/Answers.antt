@@ -1,7 +1,6 @@
 -- With the flag or without it.
 use Rattle.frame.specs.Frame.{padded}
 use mathlib.Core.Path.{◌∙◌}
-use Rattle.std.proofs.Common.{◌-◌, true, false}
 use Rattle.frame.proofs.is_padded.Goals as goal
 
 pub returns-then-align : goal.returns-then-align

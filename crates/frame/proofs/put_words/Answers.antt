@@ -1,5 +1,4 @@
 -- The words put so far stand at the front; the rest is as it was, and nothing is left of it at the end.
-use Prim.Native.Nat.{◌-◌}
 use mathlib.Core.Path.{◌∙◌, refl}
 use native.Mathlib.Omega.{arith}
 use Rattle.frame.specs.Frame.{frame_bytes}

@@ -1,6 +1,5 @@
 -- By the definition's own tests.
 use Rattle.frame.specs.Frame.{refusal_of}
-use Rattle.std.proofs.Common.{◌-◌, true, false}
 use Rattle.frame.proofs.refusal_of.Goals as goal
 
 pub returns-then-not-window : goal.returns-then-not-window

@@ -1,7 +1,6 @@
 -- Without the flag, without the mark, or with both.
 use mathlib.Core.Path.{sym, ◌∙◌}
 use Rattle.frame.specs.Frame.{restored_sp}
-use Rattle.std.proofs.Common.{◌-◌, true, false}
 use Rattle.frame.proofs.restored_sp.Goals as goal
 
 pub returns-then-not-align : goal.returns-then-not-align

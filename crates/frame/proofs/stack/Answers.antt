@@ -8,8 +8,6 @@ use borrow.Rule.Slice.PartMut.{Post-is}
 use Rattle.frame.specs.Frame.{frame_at, stack_refusal, stacked, written, stacked_window}
 use Rattle.frame.specs.Accepted.{StackAccepted}
 use Rattle.frame.proofs.Accepted.{stack_accepted}
-use Rattle.std.proofs.Common.{true, false}
-use Rattle.frame.specs.Frame.{window_fits, stack_fits}
 use Rattle.frame.proofs.stack.Goals as goal
 
 pub returns-then-refusal-ne0 : goal.returns-then-refusal-ne0

@@ -2,8 +2,6 @@
 use mathlib.Core.Path.{◌∙◌}
 use borrow.Author.Tests.{eq-eqb, ne_eqb, le-leb, lt-leb}
 use Rattle.frame.specs.Frame.{stack_fits}
-use Rattle.std.proofs.Common.{◌-◌, true, false}
-use Rattle.frame.specs.Frame.{holds_frame, frame_at}
 use Rattle.frame.proofs.stack_fits.Goals as goal
 
 pub returns-then-sp-ne0 : goal.returns-then-sp-ne0

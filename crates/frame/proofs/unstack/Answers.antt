@@ -6,8 +6,6 @@ use borrow.Author.Tests.{eq-eqb, ne_eqb}
 use Rattle.frame.specs.Frame.{unstack_refusal, unstacked}
 use Rattle.frame.specs.Accepted.{UnstackAccepted}
 use Rattle.frame.proofs.Accepted.{unstack_accepted}
-use Rattle.std.proofs.Common.{◌-◌, true, false}
-use Rattle.frame.specs.Frame.{window_fits, restored_sp, unstack_fits, no_words}
 use Rattle.frame.proofs.unstack.Goals as goal
 
 pub returns-then-refusal-ne0 : goal.returns-then-refusal-ne0

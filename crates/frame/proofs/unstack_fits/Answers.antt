@@ -2,8 +2,6 @@
 use mathlib.Core.Path.{sym, ◌∙◌}
 use borrow.Author.Tests.{eq-eqb, ne_eqb}
 use Rattle.frame.specs.Frame.{unstack_fits}
-use Rattle.std.proofs.Common.{◌-◌, true, false}
-use Rattle.frame.specs.Frame.{holds_frame}
 use Rattle.frame.proofs.unstack_fits.Goals as goal
 
 pub returns-then-sp-ne0 : goal.returns-then-sp-ne0

@@ -1,7 +1,6 @@
 -- By the definition's own tests.
 use Rattle.frame.specs.Frame.{window_fits}
 use borrow.Author.Tests.{le-leb, lt-leb, eq-eqb, ne_eqb}
-use Rattle.std.proofs.Common.{◌-◌, true, false}
 use Rattle.frame.proofs.window_fits.Goals as goal
 
 pub returns-then-len-gt65536 : goal.returns-then-len-gt65536

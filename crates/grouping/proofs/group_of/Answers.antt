@@ -3,7 +3,6 @@ use Prim.Native.Nat.{◌+◌}
 use mathlib.Core.Path.{sym}
 use native.Mathlib.Omega.{arith}
 use Rattle.grouping.proofs.Laws.{cut_whole}
-use Rattle.std.proofs.Common.{◌-◌}
 use Rattle.grouping.proofs.group_of.Goals as goal
 
 pub returns-then-p-ge31 : goal.returns-then-p-ge31

@@ -1,19 +1,12 @@
 -- The tests of refusals 17 and 16 decide between the event and its refusal; a sound state meets what an event asks.
-use mathlib.Core.Path.{◌≡◌, sym, ◌∙◌}
-use mathlib.Core.Bool.{true}
+use mathlib.Core.Path.{sym, ◌∙◌}
 use native.Mathlib.Omega.{arith}
 use mir.Facts.{to_z-of_z}
 use borrow.Author.Rules.{rules}
-use borrow.Author.Tests.{not-false}
-use Rattle.rules.specs.Chip.{fits}
-use Rattle.rules.specs.Lent.{model_of}
-use Rattle.rules.specs.Model.{Model}
-use Rattle.rules.specs.Sound.{is_sound, Sound}
 use Rattle.demand3.proofs.Check.{depth_fits}
 use Rattle.demand3.proofs.Nesting.{execution_nest}
 use Rattle.guarded.proofs.Laws.{tested, misfit, refuses, passes}
 use mir.Syntax.{w32}
-use Rattle.std.proofs.Common.{◌-◌, false}
 use Rattle.guarded.proofs.step.Goals as goal
 
 pub returns-then-not-fits : goal.returns-then-not-fits

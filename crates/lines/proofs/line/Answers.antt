@@ -2,7 +2,6 @@
 use borrow.Author.Tests.{le-leb, lt-leb, lt-ltb, le-ltb}
 use Rattle.rules.specs.Events.{line_call}
 use Rattle.rules.specs.Model.{done, with_lost, with_core}
-use Rattle.std.proofs.Common.{◌-◌, true, false}
 use Rattle.lines.proofs.line.Goals as goal
 
 pub returns-then-chip-line : goal.returns-then-chip-line

@@ -1,7 +1,6 @@
 -- By the definition's own tests.
 use mathlib.Core.Path.{◌∙◌, sym}
 use Rattle.rules.specs.Events.{levelled}
-use Rattle.std.proofs.Common.{◌-◌, true, false}
 use Rattle.lines.proofs.set_level.Goals as goal
 
 pub returns-then-flag_at : goal.returns-then-flag_at

@@ -1,8 +1,6 @@
 -- Block by block.
 use mathlib.Core.Path.{◌∙◌}
 use Rattle.rules.specs.Map.{block_register}
-use Rattle.std.proofs.Common.{◌-◌}
-use Rattle.rules.specs.Blocks.{bank_register}
 use Rattle.map.proofs.block_register.Goals as goal
 
 pub returns : goal.returns

@@ -2,8 +2,6 @@
 use mathlib.Core.Path.{◌∙◌, ap, sym}
 use borrow.Author.Tests.{ne_eqb}
 use Rattle.rules.specs.Map.{register_at}
-use Rattle.std.proofs.Common.{◌-◌}
-use Rattle.rules.specs.Map.{block_register}
 use Rattle.map.proofs.register_at.Goals as goal
 
 pub returns-in-3758153732 : goal.returns-in-3758153732

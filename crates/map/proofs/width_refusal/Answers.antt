@@ -1,7 +1,6 @@
 -- By cases.
 use mathlib.Core.Path.{◌∙◌}
 use Rattle.rules.specs.Map.{width_refusal}
-use Rattle.std.proofs.Common.{◌-◌}
 use Rattle.map.proofs.width_refusal.Goals as goal
 
 pub returns-in-Missing : goal.returns-in-Missing

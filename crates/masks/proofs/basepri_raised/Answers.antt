@@ -2,8 +2,6 @@
 use mathlib.Core.Path.{◌∙◌}
 use borrow.Author.Tests.{eq-eqb, le-ltb, lt-ltb, ne_eqb}
 use Rattle.rules.specs.Events.{basepri_raised}
-use Rattle.std.proofs.Common.{◌-◌, true, false}
-use Rattle.rules.specs.Events.{with_basepri}
 use Rattle.masks.proofs.basepri_raised.Goals as goal
 
 pub returns-then-b-eq0 : goal.returns-then-b-eq0

@@ -1,6 +1,5 @@
 -- By the definition's own test.
 use Rattle.rules.specs.Events.{control_written}
-use Rattle.std.proofs.Common.{◌-◌, true, false}
 use Rattle.masks.proofs.control_written.Goals as goal
 
 pub returns-then-thread : goal.returns-then-thread

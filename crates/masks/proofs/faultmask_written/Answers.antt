@@ -1,6 +1,5 @@
 -- By the definition's own test.
 use Rattle.rules.specs.Events.{faultmask_written}
-use Rattle.std.proofs.Common.{◌-◌, true, false}
 use Rattle.masks.proofs.faultmask_written.Goals as goal
 
 pub returns-then-negative : goal.returns-then-negative

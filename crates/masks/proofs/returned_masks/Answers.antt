@@ -1,7 +1,6 @@
 -- By the definition's own tests.
 use borrow.Author.Tests.{eq-eqb, ne_eqb}
 use Rattle.rules.specs.Nesting.{returned_masks}
-use Rattle.std.proofs.Common.{◌-◌, true, false}
 use Rattle.masks.proofs.returned_masks.Goals as goal
 
 pub returns-then-v-eq4294967281 : goal.returns-then-v-eq4294967281

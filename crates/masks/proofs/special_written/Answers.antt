@@ -2,8 +2,6 @@
 use mathlib.Core.Path.{◌∙◌}
 use borrow.Author.Tests.{ne_eqb}
 use Rattle.rules.specs.Events.{special_written}
-use Rattle.std.proofs.Common.{◌-◌}
-use Rattle.rules.specs.Events.{with_primask, with_basepri, faultmask_written, basepri_raised, control_written}
 use Rattle.masks.proofs.special_written.Goals as goal
 
 pub returns-in-0 : goal.returns-in-0

@@ -1,7 +1,6 @@
 -- By the edition.
 use mathlib.Core.Path.{◌∙◌}
 use Rattle.mpu.specs.Editions.{guard_register_at}
-use Rattle.std.proofs.Common.{◌-◌}
 use Rattle.mpu.proofs.guard_register_at.Goals as goal
 
 pub returns-in-Pmsav7 : goal.returns-in-Pmsav7

@@ -3,8 +3,6 @@ use mathlib.Core.Path.{◌∙◌}
 use Rattle.mpu.specs.Editions.{kept_first}
 use Rattle.mpu.specs.Laws.{word_kept}
 use borrow.Author.Rules.{rules}
-use Rattle.std.proofs.Common.{◌-◌}
-use Rattle.mpu.specs.Registers.{kept_base}
 use Rattle.mpu.proofs.kept_first.Goals as goal
 
 pub returns-in-Pmsav7 : goal.returns-in-Pmsav7

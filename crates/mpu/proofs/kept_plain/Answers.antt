@@ -3,7 +3,6 @@ use mathlib.Core.Path.{◌∙◌}
 use Rattle.mpu.specs.Editions.{kept_plain}
 use Rattle.mpu.specs.Laws.{word_kept}
 use borrow.Author.Rules.{rules}
-use Rattle.std.proofs.Common.{◌-◌}
 use Rattle.mpu.proofs.kept_plain.Goals as goal
 
 pub returns-in-Pmsav7 : goal.returns-in-Pmsav7

@@ -1,8 +1,6 @@
 -- By the edition.
 use mathlib.Core.Path.{◌∙◌}
 use Rattle.mpu.specs.Editions.{kept_second}
-use Rattle.std.proofs.Common.{◌-◌}
-use Rattle.mpu.specs.Registers.{kept_attributes}
 use Rattle.mpu.proofs.kept_second.Goals as goal
 
 pub returns-in-Pmsav7 : goal.returns-in-Pmsav7

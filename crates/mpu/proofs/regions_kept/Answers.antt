@@ -1,11 +1,9 @@
 -- The loop has tested the regions passed; the measure is what is left of them.
-use Prim.Native.Nat.{◌-◌}
 use mathlib.Core.Path.{◌∙◌, refl}
 use native.Mathlib.Numerals.{add-one}
 use native.Mathlib.Omega.{arith}
 use Rattle.bools.specs.Every.{every}
 use Rattle.mpu.specs.Soundness.{region_kept}
-use Rattle.mpu.specs.Editions.{kept_first, kept_second}
 use Rattle.mpu.proofs.regions_kept.Goals as goal
 
 pub loop-i-init : goal.loop-i-init

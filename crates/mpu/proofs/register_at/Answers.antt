@@ -2,7 +2,6 @@
 use mathlib.Core.Path.{sym, ap}
 use borrow.Author.Tests.{ne_eqb}
 use Rattle.mpu.specs.Registers.{mpu_register_at}
-use Rattle.std.proofs.Common.{◌-◌}
 use Rattle.mpu.proofs.register_at.Goals as goal
 
 pub returns-in-0 : goal.returns-in-0

@@ -3,7 +3,6 @@ use mathlib.Core.Path.{sym, ap, ◌∙◌}
 use mathlib.Core.List.{[], ◌∷◌}
 use native.Mathlib.Omega.{arith}
 use Rattle.numbers.specs.Window.{joined_word, groups_of, groups_of_last, groups_of_join, groups_of_more}
-use Rattle.std.proofs.Common.{◌-◌, true, false}
 use Rattle.numbers.proofs.+read_groups.Goals as goal
 
 pub returns-then-left-eq0 : goal.returns-then-left-eq0

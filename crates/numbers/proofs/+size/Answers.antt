@@ -5,7 +5,6 @@ use native.Mathlib.Omega.{arith}
 use lib.ListN.{length}
 use Rattle.numbers.specs.Number.{groups}
 use Rattle.numbers.specs.NumberLaws.{groups_short, groups_long, groups_size}
-use Rattle.std.proofs.Common.{true, false}
 use Rattle.numbers.proofs.+size.Goals as goal
 
 pub returns-then-left-eq0 : goal.returns-then-left-eq0

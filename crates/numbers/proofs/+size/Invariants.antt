@@ -1,5 +1,4 @@
 -- The count falls with each group, and the definition has the same two cases.
-use Prim.Native.Nat.{◌-◌}
 use Rattle.numbers.proofs.+size.Given as goal
 
 abbrev pub decreases-size : goal.decreases-size

@@ -5,7 +5,6 @@ use native.Mathlib.Omega.{arith}
 use lib.ListN.{length, length-set}
 use Rattle.numbers.specs.Number.{groups}
 use Rattle.numbers.specs.NumberLaws.{groups_short, groups_long}
-use Rattle.std.proofs.Common.{◌-◌, true, false}
 use Rattle.numbers.proofs.+write_groups.Goals as goal
 
 pub returns-then-left-eq0 : goal.returns-then-left-eq0

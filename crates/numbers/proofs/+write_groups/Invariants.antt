@@ -1,5 +1,4 @@
 -- The count falls; the first group is stored here and the rest by the recursion, as `sets` does from an offset on.
-use Rattle.std.proofs.Common.{◌-◌}
 use Rattle.numbers.proofs.+write_groups.Given as goal
 
 abbrev pub decreases-write_groups : goal.decreases-write_groups

@@ -1,7 +1,6 @@
 -- The tests are the definition's.
 use borrow.Author.Tests.{eq-eqb, ne_eqb, lt-ltb, le-ltb}
 use Rattle.numbers.specs.Window.{joined_word}
-use Rattle.std.proofs.Common.{◌-◌, true, false}
 use Rattle.numbers.proofs.join.Goals as goal
 
 pub returns-then-rest-eq0 : goal.returns-then-rest-eq0

@@ -7,7 +7,6 @@ use Rattle.numbers.specs.declared.Number.TheVariants.{Value}
 use Rattle.numbers.specs.Number.{number_at}
 use Rattle.numbers.specs.NumberLaws.{Bytes, groups_size, groups_at_step}
 use Rattle.numbers.specs.Window.{or_none, number_window, number_some, number_none}
-use Rattle.std.proofs.Common.{◌-◌, true, false}
 use Rattle.numbers.proofs.read_long.Goals as goal
 
 pub returns-then-bytes-at : goal.returns-then-bytes-at

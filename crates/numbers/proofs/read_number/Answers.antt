@@ -1,15 +1,11 @@
 -- A first group below 128 is the whole number.
-use mathlib.Core.Path.{◌≡◌, ap}
-use Rattle.std.proofs.Common.{◌+◌}
+use mathlib.Core.Path.{ap}
 use native.Mathlib.Omega.{arith}
 use lib.ListN.{get_or}
 use borrow.Author.Tests.{lt-ltb}
-use Rattle.numbers.specs.declared.Number.{Number}
-use Rattle.numbers.specs.declared.Number.TheVariants.{Value}
 use Rattle.numbers.specs.Answers.{number_answer}
 use Rattle.numbers.specs.Number.{number_at}
 use Rattle.numbers.specs.NumberLaws.{groups_at_step}
-use Rattle.std.proofs.Common.{◌-◌, true}
 use Rattle.numbers.proofs.read_number.Goals as goal
 
 pub returns-then-first-lt128-clause-value : goal.returns-then-first-lt128-clause-value

@@ -1,8 +1,6 @@
 -- At the end nothing is left to write; elsewhere the line is what the script has left.
 use native.Mathlib.Omega.{arith}
 use Rattle.pieces.proofs.Promise.{closed_end, closed_broken}
-use Rattle.std.proofs.Common.{◌-◌, true}
-use Rattle.pieces.specs.Steps.{finished}
 use Rattle.pieces.proofs.close.Goals as goal
 
 pub returns-then-script-p : goal.returns-then-script-p

@@ -1,11 +1,9 @@
 -- Block by block, and the last block by itself: together they are the places past n.
-use Prim.Native.Nat.{◌-◌}
 use mathlib.Core.Path.{◌∙◌}
 use mathlib.Core.Bool.{◌||◌}
 use native.Mathlib.Omega.{arith}
 use Rattle.places.specs.Places.{nonzero}
 use Rattle.places.proofs.Laws.{in_size, begun, further, covered}
-use Rattle.std.proofs.Common.{true, false}
 use Rattle.places.proofs.nest_past.Goals as goal
 
 pub loop-i-init : goal.loop-i-init

@@ -2,7 +2,6 @@
 use mathlib.Core.Path.{◌∙◌}
 use mathlib.Core.Bool.{cond}
 use Rattle.places.specs.Places.{nonzero, occupied, reach}
-use Rattle.std.proofs.Common.{◌-◌}
 use Rattle.places.proofs.reach_of.Goals as goal
 
 pub returns : goal.returns

@@ -1,12 +1,10 @@
 -- After n steps the best of the first n is found.
-use Prim.Native.Nat.{◌-◌}
 use mathlib.Core.Path.{refl, ◌∙◌}
 use native.Mathlib.Nat.{le_antisymm}
 use native.Mathlib.Numerals.{add-one}
 use native.Mathlib.Omega.{arith}
 use mir.Facts.{to_z-of_z}
 use Rattle.priority.specs.Priority.{best, best_pending}
-use Rattle.std.proofs.Common.{false}
 use Rattle.priority.proofs.best_pending.Goals as goal
 
 pub loop-n-init : goal.loop-n-init

@@ -4,8 +4,6 @@ use mir.Syntax.{w32}
 use mir.Facts.{to_z-of_z}
 use Rattle.priority.specs.Priority.{execution_nested}
 use borrow.Author.Rules.{rules}
-use Rattle.std.proofs.Common.{◌-◌}
-use Rattle.priority.specs.Priority.{masked, least_nested}
 use Rattle.priority.proofs.execution_nested.Goals as goal
 
 pub returns : goal.returns

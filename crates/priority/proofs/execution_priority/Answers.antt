@@ -4,8 +4,6 @@ use mir.Syntax.{w32}
 use mir.Facts.{to_z-of_z}
 use Rattle.priority.specs.Priority.{execution_priority}
 use borrow.Author.Rules.{rules}
-use Rattle.std.proofs.Common.{◌-◌}
-use Rattle.priority.specs.Priority.{masked, least_active}
 use Rattle.priority.proofs.execution_priority.Goals as goal
 
 pub returns : goal.returns

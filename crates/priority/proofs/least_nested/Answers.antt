@@ -1,5 +1,4 @@
 -- After i steps the least of the first i is known.
-use Prim.Native.Nat.{◌-◌}
 use mathlib.Core.Path.{refl, ◌∙◌}
 use native.Mathlib.Numerals.{add-one}
 use native.Mathlib.Omega.{arith}
@@ -7,7 +6,6 @@ use mir.Syntax.{w32}
 use mir.Facts.{to_z-of_z}
 use Rattle.priority.specs.Priority.{least_nested}
 use borrow.Author.Rules.{rules}
-use Rattle.grouping.specs.Grouping.{group_priority}
 use Rattle.priority.proofs.least_nested.Goals as goal
 
 pub loop-i-init : goal.loop-i-init

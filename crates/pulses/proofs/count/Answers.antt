@@ -1,7 +1,6 @@
 -- Only a rise that is lost counts.
 use mathlib.Core.Path.{sym, ◌∙◌}
 use Rattle.rules.specs.Events.{loses_rise, one_more, counted}
-use Rattle.std.proofs.Common.{◌-◌, true, false}
 use Rattle.pulses.proofs.count.Goals as goal
 
 pub returns-then-loses_rise : goal.returns-then-loses_rise

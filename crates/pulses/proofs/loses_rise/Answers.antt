@@ -4,7 +4,6 @@ use mathlib.Core.Bool.{not, ◌&&◌}
 use Rattle.bools.specs.Tests.{and_true, and_false_of}
 use Rattle.flag_words.specs.Flags.{on}
 use Rattle.rules.specs.Events.{loses_rise}
-use Rattle.std.proofs.Common.{◌-◌, true, false}
 use Rattle.pulses.proofs.loses_rise.Goals as goal
 
 pub returns-then-flag_at : goal.returns-then-flag_at

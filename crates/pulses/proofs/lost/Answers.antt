@@ -1,7 +1,6 @@
 -- The refusal of a level event, or the count.
 use borrow.Author.Tests.{le-leb, lt-leb}
 use Rattle.rules.specs.Events.{lost_call}
-use Rattle.std.proofs.Common.{◌-◌, true, false}
 use Rattle.pulses.proofs.lost.Goals as goal
 
 pub returns-then-chip-line : goal.returns-then-chip-line

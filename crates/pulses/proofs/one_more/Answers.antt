@@ -2,7 +2,6 @@
 use mathlib.Core.Path.{sym}
 use lib.Seq.{set_out}
 use Rattle.rules.specs.Events.{one_more}
-use Rattle.std.proofs.Common.{◌-◌, false}
 use Rattle.pulses.proofs.one_more.Goals as goal
 
 pub returns-then-line-lost : goal.returns-then-line-lost

@@ -1,5 +1,4 @@
 -- Only a read of the timer changes anything.
-use Rattle.std.proofs.Common.{◌-◌}
 use Rattle.rules.specs.Reads.{after_read}
 use Rattle.reads.proofs.after_read.Goals as goal
 

@@ -1,6 +1,5 @@
 -- Each bank shows its flags.
 use mathlib.Core.Path.{◌∙◌}
-use Rattle.std.proofs.Common.{◌-◌}
 use Rattle.rules.specs.Reads.{bank_value}
 use Rattle.reads.proofs.bank_value.Goals as goal
 

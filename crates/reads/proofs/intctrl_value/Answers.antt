@@ -1,7 +1,6 @@
 -- The top of a nest of bytes is a byte.
 use mathlib.Core.Path.{◌∙◌}
-use Rattle.std.proofs.Common.{◌-◌}
-use Rattle.rules.specs.Reads.{shows_base, intctrl_value}
+use Rattle.rules.specs.Reads.{shows_base}
 use Rattle.reads.proofs.intctrl_value.Goals as goal
 
 pub returns : goal.returns

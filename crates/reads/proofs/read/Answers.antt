@@ -3,7 +3,6 @@ use mathlib.Core.Path.{sym}
 use borrow.Author.Tests.{eq-eqb, ne_eqb}
 use Rattle.rules.specs.Registers.{read_call}
 use Rattle.rules.specs.Model.{with_active, with_enabled, with_nest, with_pending, with_priority}
-use Rattle.std.proofs.Common.{◌-◌, true, false}
 use Rattle.reads.proofs.read.Goals as goal
 
 pub returns-then-refusal-eq0 : goal.returns-then-refusal-eq0

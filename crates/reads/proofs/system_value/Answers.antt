@@ -1,7 +1,6 @@
 -- One clause a register.
 use mathlib.Core.Path.{◌∙◌}
-use Rattle.std.proofs.Common.{◌-◌}
-use Rattle.rules.specs.Reads.{intctrl_value, system_value}
+use Rattle.rules.specs.Reads.{system_value}
 use Rattle.reads.proofs.system_value.Goals as goal
 
 pub returns-in-Ictype : goal.returns-in-Ictype

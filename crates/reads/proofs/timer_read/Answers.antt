@@ -1,5 +1,4 @@
 -- The timer alone changes.
-use Rattle.std.proofs.Common.{◌-◌}
 use Rattle.rules.specs.Reads.{after_read}
 use Rattle.reads.proofs.timer_read.Goals as goal
 

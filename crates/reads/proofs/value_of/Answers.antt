@@ -1,8 +1,7 @@
 -- One clause a kind of register.
 use mathlib.Core.Path.{◌∙◌}
 use Rattle.rules.specs.Model.{with_core, with_nest, with_priority}
-use Rattle.std.proofs.Common.{◌-◌}
-use Rattle.rules.specs.Reads.{bank_value, system_value, value_of}
+use Rattle.rules.specs.Reads.{value_of}
 use Rattle.reads.proofs.value_of.Goals as goal
 
 pub returns-in-Missing : goal.returns-in-Missing

@@ -2,7 +2,6 @@
 use mathlib.Core.Path.{sym}
 use Rattle.rules.specs.Model.{with_pending, with_active, with_level, with_nest, with_core}
 use Rattle.returning.proofs.Laws.{sub_one, returned_parts}
-use Rattle.std.proofs.Common.{◌-◌}
 use Rattle.returning.proofs.leave.Goals as goal
 
 pub returns : goal.returns

@@ -4,7 +4,6 @@ use mathlib.Core.Path.{◌∙◌, sym}
 use Rattle.bools.specs.Tests.{is_true}
 use Rattle.rules.specs.Nesting.{return_call}
 use Rattle.rules.proofs.Laws.{link_deep}
-use Rattle.std.proofs.Common.{true, ◌-◌, false}
 use Rattle.returning.proofs.return_.Goals as goal
 
 pub overflow_sub-core : goal.overflow_sub-core

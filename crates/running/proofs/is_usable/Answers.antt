@@ -1,7 +1,6 @@
 -- The two tests are those of the definition.
 use mathlib.Core.Path.{sym, ◌∙◌}
 use Rattle.pieces.specs.Pieces.{is_usable}
-use Rattle.std.proofs.Common.{◌-◌, true, false}
 use Rattle.running.proofs.is_usable.Goals as goal
 
 pub returns-then-is_sound : goal.returns-then-is_sound

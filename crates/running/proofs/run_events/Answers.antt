@@ -1,5 +1,5 @@
 -- Each event's line is written before the next is read (`Going`), until no line has room or no event can be read.
-use Prim.Native.Nat.{◌+◌, ◌-◌, ◌≤◌}
+use Prim.Native.Nat.{◌+◌, ◌≤◌}
 use mathlib.Core.Path.{refl, sym, subst, ◌∙◌}
 use native.Mathlib.Omega.{arith}
 use lib.ListN.{length}
@@ -16,7 +16,6 @@ use Rattle.pieces.proofs.Laws.{One, one_of}
 use Rattle.pieces.proofs.Loop.{going_first, going_next}
 use Rattle.pieces.proofs.Promise.{usable_of, ran_full, ran_closed}
 use borrow.Author.Rules.{rules}
-use Rattle.std.proofs.Common.{true, false}
 use Rattle.running.proofs.run_events.Goals as goal
 
 pub execution-limit-requires : goal.execution-limit-requires

@@ -2,12 +2,8 @@
 -- lets the loop act.
 use mathlib.Core.Path.{refl, sym, ◌∙◌}
 use native.Mathlib.Omega.{arith}
-use lib.Dec.{T}
 use Rattle.bools.specs.Tests.{is_true}
-use Rattle.rules.specs.Chip.{fits}
 use Rattle.pieces.proofs.Promise.{ran_ended, ran_unadmitted, ran_long, ran_refused}
-use Rattle.std.proofs.Common.{◌-◌, true, false}
-use Rattle.pieces.specs.Pieces.{is_usable}
 use Rattle.running.proofs.run_some.Goals as goal
 
 pub returns-then-course : goal.returns-then-course

@@ -2,7 +2,6 @@
 use mathlib.Core.Path.{sym, ap}
 use borrow.Author.Tests.{ne_eqb}
 use Rattle.script.specs.Event.{access_kind}
-use Rattle.std.proofs.Common.{◌-◌}
 use Rattle.script.proofs.access_kind.Goals as goal
 
 pub returns-in-0 : goal.returns-in-0

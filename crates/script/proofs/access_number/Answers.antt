@@ -1,6 +1,5 @@
 -- Each arm is the definition's clause of its case.
 use Rattle.script.specs.Event.{access_number}
-use Rattle.std.proofs.Common.{◌-◌}
 use Rattle.script.proofs.access_number.Goals as goal
 
 pub returns-in-Read : goal.returns-in-Read

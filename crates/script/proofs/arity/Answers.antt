@@ -2,7 +2,6 @@
 use mathlib.Core.Path.{sym, ap}
 use borrow.Author.Tests.{ne_eqb}
 use Rattle.script.specs.Event.{arity}
-use Rattle.std.proofs.Common.{◌-◌}
 use Rattle.script.proofs.arity.Goals as goal
 
 pub returns-in-1 : goal.returns-in-1

@@ -1,5 +1,4 @@
 -- The turns left fall.
-use Rattle.std.proofs.Common.{◌-◌}
 use Rattle.script_cases.proofs.show_script.Given as goal
 
 abbrev pub invariant-loop-left : goal.invariant-loop-left

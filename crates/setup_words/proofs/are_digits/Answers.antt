@@ -1,11 +1,8 @@
 -- Each byte passed is a digit (`digits-next`).
-use Prim.Native.Nat.{◌-◌}
 use mathlib.Core.Path.{◌≡◌, sym, ◌∙◌}
 use native.Mathlib.Omega.{arith}
 use lib.ListN.{length}
 use Rattle.setup_words.proofs.Laws.{digits_next, digits_fail, digits_all}
-use Rattle.std.proofs.Common.{true, false}
-use Rattle.setup_words.specs.Words.{is_digit}
 use Rattle.setup_words.proofs.are_digits.Goals as goal
 
 pub returns-then-not-is_digit : goal.returns-then-not-is_digit

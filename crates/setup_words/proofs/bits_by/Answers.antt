@@ -1,8 +1,6 @@
 -- The tests are those of the definition, in its order.
 use mathlib.Core.Path.{sym}
 use Rattle.setup_words.specs.Words.{bits_by}
-use Rattle.std.proofs.Common.{◌-◌, true, false}
-use Rattle.setup_words.specs.Words.{is_number, mistaken, keeping}
 use Rattle.setup_words.proofs.bits_by.Goals as goal
 
 pub returns-then-words : goal.returns-then-words

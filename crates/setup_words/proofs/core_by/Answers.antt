@@ -1,8 +1,6 @@
 -- A word for the second time is a mistake; else the value is one of two.
 use mathlib.Core.Path.{◌∙◌}
 use Rattle.setup_words.specs.Words.{core_by}
-use Rattle.std.proofs.Common.{◌-◌, true, false}
-use Rattle.setup_words.specs.Words.{mistaken}
 use Rattle.setup_words.proofs.core_by.Goals as goal
 
 pub returns-then-words : goal.returns-then-words

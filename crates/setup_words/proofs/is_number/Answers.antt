@@ -1,8 +1,6 @@
 -- A number has a digit or more.
 use mathlib.Core.Path.{sym, ◌∙◌}
 use Rattle.setup_words.proofs.Laws.{number_none, number_some}
-use Rattle.std.proofs.Common.{◌-◌, true, false}
-use Rattle.setup_words.specs.Words.{are_digits}
 use Rattle.setup_words.proofs.is_number.Goals as goal
 
 pub returns-then-bytes-eq0 : goal.returns-then-bytes-eq0

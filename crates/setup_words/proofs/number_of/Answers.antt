@@ -1,5 +1,4 @@
 -- Each digit passed is part of the number (`number-next`).
-use Prim.Native.Nat.{◌-◌}
 use mathlib.Core.Path.{◌≡◌, sym}
 use native.Mathlib.Omega.{arith}
 use lib.ListN.{length}

@@ -1,8 +1,6 @@
 -- The word is compared with each that there is.
 use mathlib.Core.Path.{sym}
 use Rattle.setup_words.specs.Words.{paired}
-use Rattle.std.proofs.Common.{◌-◌, true, false}
-use Rattle.setup_words.specs.Words.{mistaken, core_by, lines_by, bits_by, guard_by}
 use Rattle.setup_words.proofs.pair.Goals as goal
 
 pub returns-then-same : goal.returns-then-same

@@ -1,10 +1,8 @@
 -- Each byte passed is the same in both (`same_next`).
-use Prim.Native.Nat.{◌-◌}
 use mathlib.Core.Path.{◌≡◌, sym}
 use native.Mathlib.Omega.{arith}
 use lib.ListN.{length}
 use Rattle.setup_words.proofs.Laws.{same_length, same_next, same_differs, same_all}
-use Rattle.std.proofs.Common.{true, false}
 use Rattle.setup_words.proofs.same.Goals as goal
 
 pub returns-then-a-b : goal.returns-then-a-b

@@ -5,7 +5,6 @@ use mathlib.Core.Bool.{true, false}
 use lib.Dec.{eqb}
 use borrow.Author.Tests.{eq-eqb, ne_eqb}
 use Rattle.rules.specs.Sound.{is_sized}
-use Rattle.std.proofs.Common.{◌-◌}
 use Rattle.sound_state.proofs.is_sized.Goals as goal
 
 differs : {k m n : ℕ} → m ≡ n → (k ≡ m → ⊥) → eqb k n ≡ false

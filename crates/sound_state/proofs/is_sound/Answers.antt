@@ -5,8 +5,6 @@ use Rattle.rules.specs.Lent.{model_of}
 use Rattle.rules.specs.Sound.{is_sound}
 use Rattle.rules.proofs.Laws.{counts_held}
 use Rattle.sound_state.proofs.Laws.{sized}
-use Rattle.std.proofs.Common.{◌-◌, true, false}
-use Rattle.rules.specs.Sound.{is_sized}
 use Rattle.sound_state.proofs.is_sound.Goals as goal
 
 pub returns-then-not-is_sized : goal.returns-then-not-is_sized

@@ -3,8 +3,6 @@ use mir.Facts.{to_z-of_z}
 use mathlib.Core.Path.{◌∙◌, sym}
 use borrow.Author.Tests.{lt-ltb, le-ltb}
 use Rattle.rules.specs.Events.{special_at}
-use Rattle.std.proofs.Common.{◌-◌, true, false}
-use Rattle.rules.specs.Events.{lacks_special}
 use Rattle.special.proofs.special.Goals as goal
 
 pub returns-then-which-gt4 : goal.returns-then-which-gt4

@@ -4,7 +4,6 @@ use mir.Facts.{to_z-of_z}
 use Rattle.rules.specs.Lent.{model_of}
 use Rattle.rules.specs.Step.{act_of}
 use Rattle.step.proofs.Laws.{enterable}
-use Rattle.std.proofs.Common.{◌-◌}
 use Rattle.step.proofs.act.Goals as goal
 
 pub entry-requires : goal.entry-requires

@@ -2,7 +2,6 @@
 use native.Mathlib.Omega.{arith}
 use borrow.Author.Tests.{lt-ltb, le-ltb}
 use Rattle.systick.specs.ClosedForm.{falls_in}
-use Rattle.std.proofs.Common.{true, ◌-◌, false}
 use Rattle.systick.proofs.falls_in.Goals as goal
 
 pub returns-then-current-gt0 : goal.returns-then-current-gt0

@@ -2,7 +2,6 @@
 use native.Mathlib.Numerals.{add-one}
 use borrow.Author.Tests.{eq-eqb, ne_eqb}
 use Rattle.systick.specs.ClosedForm.{from_zero}
-use Rattle.std.proofs.Common.{true, ◌-◌, false}
 use Rattle.systick.proofs.from_zero.Goals as goal
 
 pub returns-then-over-eq0 : goal.returns-then-over-eq0

@@ -1,5 +1,5 @@
 -- An event that is read ends past its start, so less of the script is left after it.
-use Rattle.std.proofs.Common.{◌-◌, sym, ◌∙◌, arith}
+use Rattle.std.proofs.Common.{sym, ◌∙◌, arith}
 use Rattle.script.specs.EventLaws.{EventRead, event_read}
 use Rattle.timing.proofs.run_once.Goals as goal
 

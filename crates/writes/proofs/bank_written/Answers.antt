@@ -1,6 +1,5 @@
 -- Each bank by its own clause.
 use Rattle.rules.specs.Writes.{bank_written}
-use Rattle.std.proofs.Common.{◌-◌}
 use Rattle.writes.proofs.bank_written.Goals as goal
 
 pub returns-in-EnableSet : goal.returns-in-EnableSet

@@ -1,6 +1,5 @@
 -- Only priority bytes are written as bytes.
 use Rattle.rules.specs.Writes.{byte_written}
-use Rattle.std.proofs.Common.{◌-◌}
 use Rattle.writes.proofs.byte_written.Goals as goal
 
 pub returns-in-Missing : goal.returns-in-Missing

@@ -2,8 +2,6 @@
 use mathlib.Core.Path.{◌∙◌}
 use Rattle.rules.specs.Writes.{system_written}
 use Rattle.rules.specs.Model.{with_enabled, with_pending}
-use Rattle.std.proofs.Common.{◌-◌}
-use Rattle.rules.specs.Writes.{stored_written}
 use Rattle.writes.proofs.system_written.Goals as goal
 
 pub returns-in-Intctrl : goal.returns-in-Intctrl

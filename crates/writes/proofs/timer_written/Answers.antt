@@ -1,6 +1,5 @@
 -- The timer alone changes.
 use Rattle.rules.specs.Writes.{word_written}
-use Rattle.std.proofs.Common.{◌-◌}
 use Rattle.writes.proofs.timer_written.Goals as goal
 
 pub returns : goal.returns

@@ -2,8 +2,6 @@
 use mathlib.Core.Path.{◌∙◌}
 use Rattle.rules.specs.Writes.{word_written}
 use Rattle.rules.specs.Model.{with_active, with_core, with_enabled, with_level, with_pending, with_priority}
-use Rattle.std.proofs.Common.{◌-◌}
-use Rattle.rules.specs.Writes.{bank_written, system_written}
 use Rattle.writes.proofs.word_written.Goals as goal
 
 pub returns-in-Missing : goal.returns-in-Missing

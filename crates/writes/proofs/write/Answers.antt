@@ -3,8 +3,6 @@ use mathlib.Core.Path.{sym}
 use borrow.Author.Tests.{eq-eqb, ne_eqb}
 use Rattle.rules.specs.Registers.{written, write_call}
 use Rattle.rules.specs.Model.{with_active, with_core, with_enabled, with_level, with_pending}
-use Rattle.std.proofs.Common.{◌-◌, true, false}
-use Rattle.rules.specs.Writes.{byte_written}
 use Rattle.writes.proofs.write.Goals as goal
 
 pub returns-then-width-eq4 : goal.returns-then-width-eq4

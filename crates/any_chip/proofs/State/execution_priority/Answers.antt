@@ -8,7 +8,6 @@ use Rattle.any_chip.specs.ViewLaws.{Sized}
 use Rattle.any_chip.proofs.View.{Within, within, front}
 use borrow.Author.Rules.{rules}
 use mir.Syntax.{w32}
-use Rattle.std.proofs.Common.{◌-◌}
 use Rattle.any_chip.proofs.State.execution_priority.Goals as goal
 
 pub slice_bounds-active-end : goal.slice_bounds-active-end

@@ -2,7 +2,6 @@
 use Rattle.any_chip.specs.ViewLaws.{Sized}
 use Rattle.any_chip.proofs.View.{Within, within, front}
 use borrow.Author.Rules.{rules}
-use Rattle.std.proofs.Common.{◌-◌}
 use Rattle.any_chip.proofs.State.is_sound.Goals as goal
 
 pub slice_bounds-pending-end : goal.slice_bounds-pending-end

@@ -4,7 +4,6 @@ use Rattle.any_chip.specs.View.{reach_in}
 use Rattle.any_chip.specs.ViewLaws.{Sized}
 use Rattle.any_chip.proofs.View.{reached_in, Within, within, front, step_back}
 use borrow.Author.Rules.{rules}
-use Rattle.std.proofs.Common.{◌-◌}
 use Rattle.any_chip.proofs.State.step.Goals as goal
 
 pub slice_bounds-pending-end : goal.slice_bounds-pending-end

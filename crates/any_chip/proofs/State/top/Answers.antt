@@ -2,7 +2,6 @@
 use Rattle.any_chip.specs.ViewLaws.{Sized}
 use Rattle.any_chip.proofs.View.{Within, within, front}
 use borrow.Author.Rules.{rules}
-use Rattle.std.proofs.Common.{◌-◌}
 use Rattle.any_chip.proofs.State.top.Goals as goal
 
 pub slice_bounds-nest-end : goal.slice_bounds-nest-end

@@ -1,7 +1,6 @@
 -- By the kind; a fetch also by bit 0.
 use mathlib.Core.Path.{◌∙◌}
 use Rattle.editions.specs.Pmsav8.{cover_allows}
-use Rattle.std.proofs.Common.{◌-◌}
 use Rattle.editions.proofs.pmsav8.cover_allows.Goals as goal
 
 pub returns-in-Read : goal.returns-in-Read

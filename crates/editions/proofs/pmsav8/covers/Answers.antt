@@ -1,7 +1,6 @@
 -- The tests of the definition.
 use mathlib.Core.Path.{◌∙◌}
 use Rattle.editions.specs.Pmsav8.{covers}
-use Rattle.std.proofs.Common.{◌-◌}
 use Rattle.editions.proofs.pmsav8.covers.Goals as goal
 
 pub returns : goal.returns

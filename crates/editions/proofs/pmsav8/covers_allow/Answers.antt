@@ -1,5 +1,4 @@
 -- The loop knows which of the regions passed covers the address (`Known`), and ends at a second one; the measure is what is left of them.
-use Prim.Native.Nat.{◌-◌}
 use mathlib.Core.Path.{◌≡◌, refl, sym, ◌∙◌}
 use native.Mathlib.Nat.{le_antisymm}
 use native.Mathlib.Numerals.{add-one}
@@ -7,8 +6,6 @@ use native.Mathlib.Omega.{arith}
 use lib.ListN.{length}
 use Rattle.editions.specs.Pmsav8.{tally}
 use Rattle.editions.proofs.Laws.{first_one, not_one, second_one, passed}
-use Rattle.std.proofs.Common.{true, false}
-use Rattle.editions.specs.Pmsav8.{covers, cover_allows}
 use Rattle.editions.proofs.pmsav8.covers_allow.Goals as goal
 use Rattle.editions.proofs.pmsav8.covers_allow.Goals.{then-covers+else-once, else-covers}
 

@@ -1,6 +1,5 @@
 -- By privilege.
 use Rattle.editions.specs.Pmsav8.{rights_in}
-use Rattle.std.proofs.Common.{◌-◌, true, false}
 use Rattle.editions.proofs.pmsav8.may_read.Goals as goal
 
 pub returns-then-privileged : goal.returns-then-privileged

@@ -2,7 +2,6 @@
 use mathlib.Core.Path.{◌∙◌}
 use borrow.Author.Tests.{eq-eqb, ne_eqb}
 use Rattle.editions.specs.Pmsav8.{rights_in}
-use Rattle.std.proofs.Common.{◌-◌, true, false}
 use Rattle.editions.proofs.pmsav8.may_write.Goals as goal
 
 pub returns-then-rbar-eq1 : goal.returns-then-rbar-eq1

@@ -2,7 +2,6 @@
 use mathlib.Core.Path.{◌∙◌, ap, sym}
 use borrow.Author.Tests.{ne_eqb}
 use Rattle.rules.specs.MapArmv6m.{armv6m_register}
-use Rattle.std.proofs.Common.{◌-◌}
 use Rattle.map.proofs.armv6m.register_at.Goals as goal
 
 pub returns-in-3758153744 : goal.returns-in-3758153744

@@ -1,8 +1,6 @@
 -- The definition's tests in its order.
 use mathlib.Core.Path.{◌∙◌, sym}
 use Rattle.rules.specs.Registers.{access_refusal}
-use Rattle.std.proofs.Common.{◌-◌, true, false}
-use Rattle.rules.specs.Registers.{is_width}
 use Rattle.map.proofs.checks.access_refusal.Goals as goal
 
 pub returns-then-allowed : goal.returns-then-allowed

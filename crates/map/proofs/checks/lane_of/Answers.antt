@@ -2,7 +2,6 @@
 use mathlib.Core.Path.{◌∙◌}
 use borrow.Author.Tests.{eq-eqb, ne_eqb}
 use Rattle.rules.specs.Registers.{lane_of}
-use Rattle.std.proofs.Common.{◌-◌, true, false}
 use Rattle.map.proofs.checks.lane_of.Goals as goal
 
 pub returns-then-w-eq4 : goal.returns-then-w-eq4

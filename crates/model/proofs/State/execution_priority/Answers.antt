@@ -4,7 +4,6 @@ use mir.Facts.{to_z-of_z}
 use Rattle.rules.specs.Priorities.{execution}
 use borrow.Author.Rules.{rules}
 use mir.Syntax.{w32}
-use Rattle.std.proofs.Common.{◌-◌}
 use Rattle.model.proofs.State.execution_priority.Goals as goal
 
 pub returns : goal.returns

@@ -4,8 +4,6 @@ use mathlib.Core.Bool.{and-true}
 use lib.ListN.{length}
 use Rattle.mpu.specs.Soundness.{sound_mpu}
 use borrow.Author.Rules.{rules}
-use Rattle.std.proofs.Common.{◌-◌}
-use Rattle.mpu.specs.Soundness.{plain_kept}
 use Rattle.mpu.proofs.Mpu.is_sound.Goals as goal
 
 pub returns : goal.returns

@@ -3,7 +3,6 @@ use mathlib.Core.Path.{◌≡◌}
 use lib.ListN.{length}
 use Rattle.mpu.specs.Unused.{is_unused}
 use borrow.Author.Rules.{rules}
-use Rattle.std.proofs.Common.{◌-◌}
 use Rattle.mpu.proofs.Mpu.is_unused.Goals as goal
 
 pub returns : goal.returns

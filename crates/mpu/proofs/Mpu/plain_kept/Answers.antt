@@ -1,8 +1,6 @@
 -- Both tests of the definition.
 use mathlib.Core.Path.{◌∙◌}
 use Rattle.mpu.specs.Soundness.{plain_kept}
-use Rattle.std.proofs.Common.{◌-◌}
-use Rattle.mpu.specs.Editions.{kept_plain}
 use Rattle.mpu.proofs.Mpu.plain_kept.Goals as goal
 
 pub returns : goal.returns

@@ -3,9 +3,6 @@ use mathlib.Core.Path.{◌∙◌}
 use native.Mathlib.Omega.{arith}
 use Rattle.mpu.specs.Registers.{read_mpu}
 use Rattle.mpu.specs.Laws.{kept_base_word}
-use Rattle.std.proofs.Common.{◌-◌}
-use Rattle.mpu.specs.Registers.{kept_base}
-use Rattle.mpu.specs.Pmsav8.{read_rbar, read_rlar}
 use Rattle.mpu.proofs.Mpu.read.Goals as goal
 
 pub overflow_add-result : goal.overflow_add-result

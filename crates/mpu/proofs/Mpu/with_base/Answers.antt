@@ -1,7 +1,5 @@
 -- By what is stored.
 use Rattle.mpu.specs.Registers.{with_base}
-use Rattle.std.proofs.Common.{◌-◌}
-use Rattle.mpu.specs.Registers.{kept_base}
 use Rattle.mpu.proofs.Mpu.with_base.Goals as goal
 
 pub returns : goal.returns

@@ -3,7 +3,6 @@ use mathlib.Core.Path.{sym}
 use Rattle.mpu.specs.Pmsav8.{with_rbar}
 use Rattle.mpu.specs.Laws.{word_kept}
 use borrow.Author.Rules.{rules}
-use Rattle.std.proofs.Common.{◌-◌}
 use Rattle.mpu.proofs.Mpu.with_rbar.Goals as goal
 
 pub returns : goal.returns

@@ -1,6 +1,5 @@
 -- By what is stored.
 use Rattle.mpu.specs.Pmsav8.{with_rlar}
-use Rattle.std.proofs.Common.{◌-◌}
 use Rattle.mpu.proofs.Mpu.with_rlar.Goals as goal
 
 pub returns : goal.returns

@@ -1,9 +1,6 @@
 -- By the register.
 use mathlib.Core.Path.{◌∙◌}
 use Rattle.mpu.specs.Registers.{write_mpu}
-use Rattle.std.proofs.Common.{◌-◌}
-use Rattle.mpu.specs.Registers.{with_control, write_number, write_base}
-use Rattle.mpu.specs.Pmsav8.{with_rbar, with_rlar, with_mair0, with_mair1}
 use Rattle.mpu.proofs.Mpu.write.Goals as goal
 
 pub returns-in-Kind : goal.returns-in-Kind

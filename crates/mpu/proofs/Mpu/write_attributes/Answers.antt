@@ -1,7 +1,5 @@
 -- By what is stored.
 use Rattle.mpu.specs.Registers.{with_attributes}
-use Rattle.std.proofs.Common.{◌-◌}
-use Rattle.mpu.specs.Registers.{kept_attributes}
 use Rattle.mpu.proofs.Mpu.write_attributes.Goals as goal
 
 pub returns : goal.returns

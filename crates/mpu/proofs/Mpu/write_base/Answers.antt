@@ -2,8 +2,6 @@
 use mathlib.Core.Path.{◌∙◌}
 use borrow.Author.Tests.{eq-eqb, ne_eqb, lt-ltb, le-ltb}
 use Rattle.mpu.specs.Registers.{write_base}
-use Rattle.std.proofs.Common.{◌-◌, true, false}
-use Rattle.mpu.specs.Registers.{with_base}
 use Rattle.mpu.proofs.Mpu.write_base.Goals as goal
 
 pub returns-then-x-eq0 : goal.returns-then-x-eq0

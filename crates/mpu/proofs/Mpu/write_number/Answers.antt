@@ -1,7 +1,6 @@
 -- By the test, as the definition.
 use borrow.Author.Tests.{lt-ltb, le-ltb}
 use Rattle.mpu.specs.Registers.{write_number}
-use Rattle.std.proofs.Common.{◌-◌, true, false}
 use Rattle.mpu.proofs.Mpu.write_number.Goals as goal
 
 pub returns-then-x-gt7 : goal.returns-then-x-gt7

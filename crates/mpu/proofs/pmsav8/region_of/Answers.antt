@@ -1,7 +1,6 @@
 -- By the pair.
 use borrow.Author.Tests.{eq-eqb, ne_eqb}
 use Rattle.mpu.specs.Pmsav8.{region_of}
-use Rattle.std.proofs.Common.{◌-◌, true, false}
 use Rattle.mpu.proofs.pmsav8.region_of.Goals as goal
 
 pub returns-then-pair-eq0 : goal.returns-then-pair-eq0

@@ -1,7 +1,6 @@
 -- The four bytes, each by its call.
 use mathlib.Core.Path.{◌∙◌}
 use native.Mathlib.Nat.{add-zero}
-use Rattle.std.proofs.Common.{◌-◌}
 use Rattle.rules.specs.Reads.{bytes_value}
 use Rattle.nvic.proofs.bytes.bytes_value.Goals as goal
 

@@ -1,7 +1,6 @@
 -- By the definition's own test.
 use mathlib.Core.Path.{◌∙◌, sym}
 use Rattle.rules.specs.Writes.{with_byte}
-use Rattle.std.proofs.Common.{◌-◌, true, false}
 use Rattle.nvic.proofs.bytes.put_byte.Goals as goal
 
 pub returns-then-has_byte : goal.returns-then-has_byte

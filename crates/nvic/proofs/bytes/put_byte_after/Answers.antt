@@ -2,7 +2,6 @@
 use mathlib.Core.Path.{sym}
 use native.Mathlib.Omega.{arith}
 use Rattle.nvic.proofs.Laws.{with_byte_past}
-use Rattle.std.proofs.Common.{◌-◌}
 use Rattle.nvic.proofs.bytes.put_byte_after.Goals as goal
 
 pub returns-else-k-priority : goal.returns-else-k-priority

@@ -2,7 +2,6 @@
 use mathlib.Core.Path.{◌∙◌, ap}
 use native.Mathlib.Nat.{add-zero}
 use Rattle.rules.specs.Writes.{with_byte, with_bytes}
-use Rattle.std.proofs.Common.{◌-◌}
 use Rattle.nvic.proofs.bytes.put_bytes.Goals as goal
 
 pub returns : goal.returns

@@ -1,8 +1,6 @@
 -- The word to clear, call by call.
 use mathlib.Core.Path.{◌∙◌}
 use Rattle.rules.specs.Writes.{clearable}
-use Rattle.std.proofs.Common.{◌-◌}
-use Rattle.flag_words.specs.Flags.{clear_flags}
 use Rattle.nvic.proofs.flags.clear_pending.Goals as goal
 
 pub returns : goal.returns

@@ -3,7 +3,6 @@ use mathlib.Core.Path.{◌∙◌, ap, sym}
 use mathlib.Core.Bool.{or-false}
 use borrow.Author.Tests.{ne_eqb}
 use Rattle.rules.specs.Nesting.{link_fits}
-use Rattle.std.proofs.Common.{◌-◌}
 use Rattle.nvic.proofs.nest.link_fits.Goals as goal
 
 pub returns-in-4294967281 : goal.returns-in-4294967281

@@ -1,7 +1,6 @@
 -- Each arm is the definition at its number; the last has the tests that failed.
 use borrow.Author.Tests.{ne_eqb}
 use Rattle.script.specs.Reading.{event_of}
-use Rattle.std.proofs.Common.{◌-◌}
 use Rattle.script.proofs.reading.event_of.Goals as goal
 
 pub returns-in-1 : goal.returns-in-1

@@ -1,8 +1,6 @@
 -- Three arguments read one by one are the definition's numbers in a row (`Arguments`).
 use mathlib.Core.Path.{sym, ◌∙◌}
 use Rattle.script.proofs.Arguments.{first_bad, second_bad, third_bad, all_found}
-use Rattle.std.proofs.Common.{◌-◌}
-use Rattle.script.specs.Reading.{event_of}
 use Rattle.script.proofs.reading.read_arguments.Goals as goal
 
 pub returns-in_default : goal.returns-in_default

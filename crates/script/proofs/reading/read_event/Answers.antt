@@ -1,12 +1,10 @@
 -- The tests come in the definition's order: 15, the kind, then what follows it.
-use mathlib.Core.Path.{◌≡◌, sym, ap, ◌∙◌}
+use mathlib.Core.Path.{sym, ap, ◌∙◌}
 use native.Mathlib.Omega.{arith}
 use lib.ListN.{length}
 use borrow.Author.Tests.{lt-ltb, le-ltb}
-use Rattle.script.specs.declared.ReadEvent.{ReadEvent}
 use Rattle.script.specs.Answers.{read_answer}
 use Rattle.script.specs.Reading.{read_event, with_kind}
-use Rattle.std.proofs.Common.{◌-◌}
 use Rattle.script.proofs.reading.read_event.Goals as goal
 
 pub returns-then-script-gt65536-clause-value : goal.returns-then-script-gt65536-clause-value

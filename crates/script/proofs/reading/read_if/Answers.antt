@@ -1,7 +1,6 @@
 -- A number that is there is read; another is 0.
 use mathlib.Core.Path.{◌∙◌}
 use Rattle.script.specs.Steps.{number_if}
-use Rattle.std.proofs.Common.{◌-◌, true, false}
 use Rattle.script.proofs.reading.read_if.Goals as goal
 
 pub returns-then-there : goal.returns-then-there

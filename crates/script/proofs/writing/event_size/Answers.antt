@@ -1,7 +1,6 @@
 -- The sizes of the parts add up; each is at most 5.
 use native.Mathlib.Omega.{arith}
 use Rattle.script.proofs.Spelling.{size_small, event_length}
-use Rattle.std.proofs.Common.{◌-◌}
 use Rattle.script.proofs.writing.event_size.Goals as goal
 
 pub overflow_add-result : goal.overflow_add-result

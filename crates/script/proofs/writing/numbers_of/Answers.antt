@@ -1,7 +1,6 @@
 -- Each arm has the kind and the arguments of its case, and the kind has as many as the arm fills in.
 use Rattle.script.specs.Event.{kind_of, arguments_of, arity}
 use Rattle.script.specs.Steps.{numbers_of}
-use Rattle.std.proofs.Common.{◌-◌}
 use Rattle.script.proofs.writing.numbers_of.Goals as goal
 
 pub returns-in-Read : goal.returns-in-Read

@@ -2,7 +2,6 @@
 use mathlib.Core.Path.{◌∙◌}
 use native.Mathlib.Omega.{arith}
 use Rattle.script.proofs.Spelling.{event_parts, event_length, sets_append}
-use Rattle.std.proofs.Common.{◌-◌}
 use Rattle.script.proofs.writing.put_all.Goals as goal
 
 pub put_if-after_kind-requires : goal.put_if-after_kind-requires

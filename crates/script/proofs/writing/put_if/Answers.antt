@@ -1,11 +1,10 @@
 -- A number that is there takes its groups; another takes none.
 use mathlib.Core.Bool.{Bool}
-use mathlib.Core.Path.{refl, ap, ◌∙◌}
+use mathlib.Core.Path.{ap, ◌∙◌}
 use native.Mathlib.Omega.{arith}
 use lib.ListN.{length}
 use Rattle.numbers.specs.Number.{number_bytes}
 use Rattle.script.specs.Steps.{bytes_if}
-use Rattle.std.proofs.Common.{◌-◌, true, false}
 use Rattle.script.proofs.writing.put_if.Goals as goal
 
 pub write_groups-requires : goal.write_groups-requires

@@ -2,7 +2,6 @@
 use mathlib.Core.Path.{◌∙◌}
 use Rattle.numbers.specs.Number.{number_bytes}
 use Rattle.script.specs.Steps.{bytes_if}
-use Rattle.std.proofs.Common.{◌-◌, true, false}
 use Rattle.script.proofs.writing.size_if.Goals as goal
 
 pub returns-then-there : goal.returns-then-there

@@ -1,11 +1,9 @@
 -- The event ends past the slice or 65,536 exactly where a test says so; else its numbers are stored.
-use mathlib.Core.Path.{◌≡◌, ap, ◌∙◌}
+use mathlib.Core.Path.{ap, ◌∙◌}
 use native.Mathlib.Omega.{arith}
 use lib.ListN.{length}
-use Rattle.script.specs.declared.Written.{Written}
 use Rattle.script.specs.Answers.{written_answer}
 use Rattle.script.proofs.Spelling.{event_small, too_long, room, same_bytes}
-use Rattle.std.proofs.Common.{◌-◌}
 use Rattle.script.proofs.writing.write_event.Goals as goal
 
 pub returns-then-at-gt65536-clause-answer : goal.returns-then-at-gt65536-clause-answer

@@ -1,7 +1,6 @@
 -- The three tests of the definition.
 use mathlib.Core.Path.{◌∙◌}
 use Rattle.rules.specs.Sound.{bare_masks}
-use Rattle.std.proofs.Common.{◌-◌}
 use Rattle.sound_state.proofs.bare.bare_masks.Goals as goal
 
 pub returns : goal.returns

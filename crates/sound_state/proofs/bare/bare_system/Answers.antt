@@ -1,7 +1,6 @@
 -- The six tests of the definition.
 use mathlib.Core.Path.{◌∙◌}
 use Rattle.rules.specs.Sound.{bare_system}
-use Rattle.std.proofs.Common.{◌-◌}
 use Rattle.sound_state.proofs.bare.bare_system.Goals as goal
 
 pub returns : goal.returns

@@ -1,8 +1,6 @@
 -- Part by part.
 use mathlib.Core.Path.{◌∙◌}
 use Rattle.rules.specs.Sound.{is_bare}
-use Rattle.std.proofs.Common.{◌-◌}
-use Rattle.rules.specs.Sound.{bare_masks, bare_system}
 use Rattle.sound_state.proofs.bare.is_bare.Goals as goal
 
 pub returns : goal.returns

@@ -1,12 +1,9 @@
 -- One byte that fails decides; else all are tried.
-use Prim.Native.Nat.{◌-◌}
 use mathlib.Core.Path.{refl, sym, ◌∙◌}
-use mathlib.Core.Bool.{true}
 use native.Mathlib.Numerals.{add-one}
 use native.Mathlib.Omega.{arith}
 use Rattle.bools.specs.Every.{every, every_false}
 use Rattle.rules.specs.Sound.{byte_sound}
-use Rattle.std.proofs.Common.{false}
 use Rattle.soundness.proofs.bytes.low_bytes_sound.Goals as goal
 
 pub loop-n-init : goal.loop-n-init

@@ -3,7 +3,6 @@ use mathlib.Core.Path.{sym, ◌∙◌}
 use mathlib.Core.Bool.{and-false}
 use Rattle.rules.specs.Sound.{sound_flags}
 use Rattle.bools.specs.Tests.{and_true_of, and_last}
-use Rattle.std.proofs.Common.{◌-◌, true, false}
 use Rattle.soundness.proofs.flags.sound_flags.Goals as goal
 
 pub returns-then-not-flags_sound : goal.returns-then-not-flags_sound

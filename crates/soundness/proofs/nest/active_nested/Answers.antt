@@ -1,12 +1,9 @@
 -- One active exception that is not nested decides; else all are tried.
-use Prim.Native.Nat.{◌-◌}
 use mathlib.Core.Path.{refl, sym, ◌∙◌}
-use mathlib.Core.Bool.{true}
 use native.Mathlib.Numerals.{add-one}
 use native.Mathlib.Omega.{arith}
 use Rattle.bools.specs.Every.{every, every_false}
 use Rattle.rules.specs.Sound.{nested_sound}
-use Rattle.std.proofs.Common.{false}
 use Rattle.soundness.proofs.nest.active_nested.Goals as goal
 
 pub loop-n-init : goal.loop-n-init

@@ -5,8 +5,6 @@ use borrow.Author.Tests.{le-leb, lt-leb}
 use Rattle.bools.specs.Every.{every}
 use Rattle.rules.specs.Sound.{sound_nest}
 use Rattle.bools.specs.Tests.{and_true_of, and_last}
-use Rattle.std.proofs.Common.{◌-◌, true, false}
-use Rattle.rules.specs.Sound.{unused_sound}
 use Rattle.soundness.proofs.nest.sound_nest.Goals as goal
 
 pub returns-then-nest-depth : goal.returns-then-nest-depth

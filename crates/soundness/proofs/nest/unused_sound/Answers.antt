@@ -13,7 +13,6 @@ use borrow.Author.Tests.{lt-ltb, le-ltb}
 use Rattle.bools.specs.Tests.{true_is}
 use Rattle.bools.specs.Every.{every, every_of}
 use Rattle.rules.specs.Sound.{unused_sound}
-use Rattle.std.proofs.Common.{false}
 use Rattle.soundness.proofs.nest.unused_sound.Goals as goal
 
 module _ (nest : List ℕ) (depth : ℕ) where

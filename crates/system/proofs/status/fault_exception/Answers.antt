@@ -2,7 +2,6 @@
 use mathlib.Core.Path.{ap, sym}
 use borrow.Author.Tests.{ne_eqb}
 use Rattle.rules.specs.Events.{fault_exception}
-use Rattle.std.proofs.Common.{◌-◌}
 use Rattle.system.proofs.status.fault_exception.Goals as goal
 
 pub returns-in-0 : goal.returns-in-0

@@ -1,7 +1,6 @@
 -- By the definition's own tests.
 use borrow.Author.Tests.{eq-eqb, ne_eqb}
 use Rattle.rules.specs.Events.{fault_status}
-use Rattle.std.proofs.Common.{◌-◌, true, false}
 use Rattle.system.proofs.status.fault_status.Goals as goal
 
 pub returns-then-bit-eq1 : goal.returns-then-bit-eq1

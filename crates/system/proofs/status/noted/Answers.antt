@@ -1,7 +1,6 @@
 -- By the profile.
 use mathlib.Core.Path.{◌∙◌, sym}
 use Rattle.rules.specs.Events.{noted}
-use Rattle.std.proofs.Common.{◌-◌, true, false}
 use Rattle.system.proofs.status.noted.Goals as goal
 
 pub returns-then-is_armv6m : goal.returns-then-is_armv6m

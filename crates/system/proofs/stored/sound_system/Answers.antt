@@ -1,8 +1,6 @@
 -- Test by test.
 use mathlib.Core.Path.{◌∙◌}
 use Rattle.rules.specs.Sound.{sound_system}
-use Rattle.std.proofs.Common.{◌-◌}
-use Rattle.rules.specs.SystemBlock.{kept_vtable, kept_sysctrl, kept_cfgctrl, kept_faultstat}
 use Rattle.system.proofs.stored.sound_system.Goals as goal
 
 pub returns : goal.returns

@@ -1,9 +1,6 @@
 -- By cases.
 use mathlib.Core.Path.{◌∙◌}
 use Rattle.rules.specs.Writes.{stored_written}
-use Rattle.std.proofs.Common.{◌-◌}
-use Rattle.rules.specs.SystemBlock.{kept_vtable, kept_sysctrl, kept_cfgctrl}
-use Rattle.rules.specs.Writes.{with_vtable, with_sysctrl, with_cfgctrl, with_faultstat, with_hfaultstat}
 use Rattle.system.proofs.stored.stored_written.Goals as goal
 
 pub returns-in-Vtable : goal.returns-in-Vtable

@@ -1,6 +1,5 @@
 -- By cases.
 use mathlib.Core.Path.{◌∙◌}
-use Rattle.std.proofs.Common.{◌-◌}
 use Rattle.rules.specs.Reads.{timer_read}
 use Rattle.system.proofs.timer.timer_read.Goals as goal
 

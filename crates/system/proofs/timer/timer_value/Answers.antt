@@ -1,6 +1,5 @@
 -- By cases.
 use mathlib.Core.Path.{◌∙◌}
-use Rattle.std.proofs.Common.{◌-◌}
 use Rattle.rules.specs.Reads.{timer_value}
 use Rattle.system.proofs.timer.timer_value.Goals as goal
 

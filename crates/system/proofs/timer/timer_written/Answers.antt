@@ -1,7 +1,6 @@
 -- By cases.
 use mathlib.Core.Path.{◌∙◌}
 use Rattle.rules.specs.Writes.{timer_written}
-use Rattle.std.proofs.Common.{◌-◌}
 use Rattle.system.proofs.timer.timer_written.Goals as goal
 
 pub returns-in-Stctrl : goal.returns-in-Stctrl

@@ -1,7 +1,6 @@
 -- The three tests one after another are the conjunction.
 use borrow.Author.Tests.{lt-ltb, le-ltb}
 use Rattle.systick.specs.Timer.{sound_timer}
-use Rattle.std.proofs.Common.{true, ◌-◌, false}
 use Rattle.systick.proofs.Timer.is_sound.Goals as goal
 
 pub returns-then-self-ge8 : goal.returns-then-self-ge8

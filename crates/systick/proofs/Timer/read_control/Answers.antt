@@ -1,7 +1,6 @@
 -- COUNT adds 2 ^ 16 where it stood, and 0 where not.
 use native.Mathlib.Nat.{add-zero}
 use Rattle.systick.specs.Timer.{read_control}
-use Rattle.std.proofs.Common.{true, ◌-◌, false}
 use Rattle.systick.proofs.Timer.read_control.Goals as goal
 
 pub returns-then-count : goal.returns-then-count

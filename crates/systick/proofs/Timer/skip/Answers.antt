@@ -3,9 +3,6 @@ use mathlib.Core.Path.{sym, ◌∙◌}
 use borrow.Author.Tests.{eq-eqb, ne_eqb, lt-ltb, le-ltb}
 use Rattle.systick.specs.ClosedForm.{skipped}
 use Rattle.systick.specs.SkipLaws.{skip_skipped}
-use Rattle.std.proofs.Common.{true, ◌-◌, false}
-use Rattle.systick.specs.ClosedForm.{falls_in}
-use Rattle.systick.specs.Timer.{steady}
 use Rattle.systick.proofs.Timer.skip.Goals as goal
 
 pub returns-then-self-ne1 : goal.returns-then-self-ne1

@@ -2,8 +2,6 @@
 use mathlib.Core.Path.{◌∙◌}
 use borrow.Author.Tests.{eq-eqb, ne_eqb}
 use Rattle.systick.specs.Timer.{tick_of}
-use Rattle.std.proofs.Common.{true, ◌-◌, false}
-use Rattle.systick.specs.Timer.{steady}
 use Rattle.systick.proofs.Timer.tick.Goals as goal
 
 pub returns-then-self-ne1 : goal.returns-then-self-ne1

@@ -1,7 +1,6 @@
 -- By the kind; a fetch also by bit 28.
 use borrow.Author.Tests.{eq-eqb, ne_eqb}
 use Rattle.verdicts.specs.Verdict.{allows}
-use Rattle.std.proofs.Common.{◌-◌, true, false}
 use Rattle.verdicts.proofs.regions.allows.Goals as goal
 
 pub returns-then-attributes-eq0 : goal.returns-then-attributes-eq0

@@ -2,8 +2,6 @@
 use mathlib.Core.Path.{◌∙◌}
 use borrow.Author.Tests.{eq-eqb, ne_eqb}
 use Rattle.verdicts.specs.Verdict.{background}
-use Rattle.std.proofs.Common.{◌-◌, true, false}
-use Rattle.verdicts.specs.Verdict.{default_allows}
 use Rattle.verdicts.proofs.regions.background.Goals as goal
 
 pub returns-then-control-eq0 : goal.returns-then-control-eq0

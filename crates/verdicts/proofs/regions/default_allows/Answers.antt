@@ -1,7 +1,6 @@
 -- By the kind, then by the address.
 use borrow.Author.Tests.{lt-ltb, le-ltb}
 use Rattle.verdicts.specs.Verdict.{default_allows}
-use Rattle.std.proofs.Common.{◌-◌, true, false}
 use Rattle.verdicts.proofs.regions.default_allows.Goals as goal
 
 pub returns-then-address-lt1073741824 : goal.returns-then-address-lt1073741824

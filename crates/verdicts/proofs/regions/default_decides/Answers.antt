@@ -2,8 +2,6 @@
 use mathlib.Core.Path.{◌∙◌, sym}
 use borrow.Author.Tests.{eq-eqb, ne_eqb}
 use Rattle.verdicts.specs.Verdict.{default_decides}
-use Rattle.std.proofs.Common.{◌-◌, true, false}
-use Rattle.verdicts.specs.Verdict.{on_private_bus}
 use Rattle.verdicts.proofs.regions.default_decides.Goals as goal
 
 pub returns-then-control-eq0 : goal.returns-then-control-eq0

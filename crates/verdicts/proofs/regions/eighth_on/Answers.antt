@@ -1,7 +1,6 @@
 -- By SIZE; a shift is a quotient.
 use borrow.Author.Tests.{lt-ltb, le-ltb}
 use Rattle.verdicts.specs.Verdict.{eighth_on}
-use Rattle.std.proofs.Common.{◌-◌, true, false}
 use Rattle.verdicts.proofs.regions.eighth_on.Goals as goal
 
 pub returns-then-size-lt7 : goal.returns-then-size-lt7

@@ -1,6 +1,5 @@
 -- By the kind.
 use Rattle.verdicts.specs.Verdict.{fault_of}
-use Rattle.std.proofs.Common.{◌-◌}
 use Rattle.verdicts.proofs.regions.fault_of.Goals as goal
 
 pub returns-in-Read : goal.returns-in-Read

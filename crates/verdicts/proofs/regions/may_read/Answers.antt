@@ -1,7 +1,6 @@
 -- Who asks decides between the two tests.
 use Rattle.bools.specs.Tests.{taken, left}
 use Rattle.verdicts.specs.Verdict.{may_read}
-use Rattle.std.proofs.Common.{◌-◌, true, false}
 use Rattle.verdicts.proofs.regions.may_read.Goals as goal
 
 pub returns-then-privileged : goal.returns-then-privileged

@@ -1,6 +1,5 @@
 -- By bit 26, then by who asks.
 use Rattle.verdicts.specs.Verdict.{may_write}
-use Rattle.std.proofs.Common.{◌-◌, true, false}
 use Rattle.verdicts.proofs.regions.may_write.Goals as goal
 
 pub returns-then-readonly : goal.returns-then-readonly

@@ -1,7 +1,6 @@
 -- By the address.
 use borrow.Author.Tests.{lt-ltb, le-ltb}
 use Rattle.verdicts.specs.Verdict.{on_private_bus}
-use Rattle.std.proofs.Common.{◌-◌, true, false}
 use Rattle.verdicts.proofs.regions.on_private_bus.Goals as goal
 
 pub returns-then-address-lt3758096384 : goal.returns-then-address-lt3758096384

@@ -1,8 +1,6 @@
 -- By the match.
 use mathlib.Core.Path.{◌∙◌, sym}
 use Rattle.verdicts.specs.Verdict.{region_allows}
-use Rattle.std.proofs.Common.{◌-◌, true, false}
-use Rattle.verdicts.specs.Verdict.{region_matches, allows}
 use Rattle.verdicts.proofs.regions.region_allows.Goals as goal
 
 pub returns-then-region_matches : goal.returns-then-region_matches

@@ -2,8 +2,6 @@
 use mathlib.Core.Path.{◌∙◌, sym}
 use borrow.Author.Tests.{eq-eqb, ne_eqb, lt-ltb, le-ltb}
 use Rattle.verdicts.specs.Verdict.{region_matches}
-use Rattle.std.proofs.Common.{◌-◌, true, false}
-use Rattle.verdicts.specs.Verdict.{agrees, eighth_on}
 use Rattle.verdicts.proofs.regions.region_matches.Goals as goal
 
 pub returns-then-attributes-eq0 : goal.returns-then-attributes-eq0

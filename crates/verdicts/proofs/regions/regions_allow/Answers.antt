@@ -1,5 +1,4 @@
 -- The loop has asked the regions passed; the measure is what is left of them.
-use Prim.Native.Nat.{◌-◌}
 use mathlib.Core.Path.{◌∙◌, refl}
 use native.Mathlib.Numerals.{add-one}
 use native.Mathlib.Omega.{arith}

@@ -1,6 +1,5 @@
 -- A call for each right.
 use Rattle.verdicts.specs.Verdict.{rights_of}
-use Rattle.verdicts.specs.Verdict.{may_read, may_write}
 use Rattle.verdicts.proofs.regions.rights_of.Goals as goal
 
 pub returns : goal.returns

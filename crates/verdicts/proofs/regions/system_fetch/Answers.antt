@@ -1,6 +1,5 @@
 -- By the kind.
 use Rattle.verdicts.specs.Verdict.{system_fetch}
-use Rattle.std.proofs.Common.{◌-◌}
 use Rattle.verdicts.proofs.regions.system_fetch.Goals as goal
 
 pub returns-in-Read : goal.returns-in-Read
