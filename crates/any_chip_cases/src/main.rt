@@ -8,7 +8,7 @@ mod nesting;
 mod registers;
 mod same;
 mod show;
-mod soundness;
+mod unsound_states;
 mod widths;
 
 use rules::Part;
@@ -18,8 +18,8 @@ fn main() {
     registers::entries();
     registers::kept_bits();
     registers::triggers();
-    soundness::cases(Part::Lines55);
-    soundness::cases(Part::Lines240);
+    unsound_states::cases(Part::Lines55);
+    unsound_states::cases(Part::Lines240);
     nesting::nest(Part::Lines240);
     nesting::nest(Part::Lines55);
     lost_counts::lost(Part::Lines55, 54, 55);

@@ -1,7 +1,7 @@
 // Priority bytes of w bits, w from 3 to 8, and refusal 17 of any other w by every call.
 use super::registers::kept_by;
 use super::show::looked;
-use super::soundness::{tried, unsound};
+use super::unsound_states::{tried, unsound};
 use any_chip::State;
 use mpu::Edition;
 use rules::{Part, Setup};

@@ -1,6 +1,6 @@
 -- A turn for each of the fourteen.
 use Prim.Native.Nat.{◌≤◌, ◌-◌}
-use Rattle.any_chip_cases.proofs.soundness.every_call.Given as goal
+use Rattle.any_chip_cases.proofs.unsound_states.every_call.Given as goal
 
 abbrev pub invariant-loop-call : goal.invariant-loop-call
 invariant-loop-call l = l.call ≤ 14
