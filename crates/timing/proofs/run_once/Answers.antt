@@ -4,9 +4,7 @@ use Rattle.script.specs.EventLaws.{EventRead, event_read}
 use Rattle.timing.proofs.run_once.Goals as goal
 
 pub loop-at-smaller : goal.loop-at-smaller
-loop-at-smaller c = omega (
-  arith,
-  ((let h : EventRead c.args.script.now c.loop-at.at c.in-Found.event c.in-Found.next = event_read _ _ _ _
-      (λ i. omega (arith, c.type_inv.script i))
-      (sym c.read_event.ensures.value ∙ c.in-Found.is) in h)).forward,
-)
+loop-at-smaller c =
+    let e : EventRead c.args.script.now c.loop-at.at c.in-Found.event c.in-Found.next =
+    event_read _ _ _ _ (λ i. omega (arith, c.type_inv.script i)) (sym c.read_event.ensures.value ∙ c.in-Found.is) in
+    omega (arith, e.forward)
