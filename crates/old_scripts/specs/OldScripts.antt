@@ -56,23 +56,6 @@ parted c d =
 abbrev pub mixed_word : Chip → ℕ
 mixed_word c = 0xE000E400 + 4 * (c.lines / 4)
 
--- For these two chips: "E000E004, E000E104 to E11F, E184 to E19F, E204 to E21F, E284 to E29F, E304 to E31F, .. bytes E437 to E4EF, and E000ED08"
-parted_55_240 : parted chip55 chip240 ≡
-    record { first = 0xE000E004; last = 0xE000E004 }
-    ∷ record { first = 0xE000E104; last = 0xE000E11F }
-    ∷ record { first = 0xE000E184; last = 0xE000E19F }
-    ∷ record { first = 0xE000E204; last = 0xE000E21F }
-    ∷ record { first = 0xE000E284; last = 0xE000E29F }
-    ∷ record { first = 0xE000E304; last = 0xE000E31F }
-    ∷ record { first = 0xE000E437; last = 0xE000E4EF }
-    ∷ record { first = 0xE000ED08; last = 0xE000ED08 }
-    ∷ []
-parted_55_240 = refl
-
--- "the word at E434"
-mixed_55 : mixed_word chip55 ≡ 0xE000E434
-mixed_55 = refl
-
 -- ---- the events
 
 -- "reads or writes none of": a read or a write of any width there, refused or not; "the word at E434" is an access of width 4 alone

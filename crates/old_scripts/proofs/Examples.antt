@@ -1,4 +1,4 @@
--- The proviso at its edges, for 55 lines and 240: which events it leaves to an old script.
+-- The proviso for 55 lines and 240: its addresses, and at its edges which events it leaves to an old script.
 use Rattle.std.specs.Prelude.{◌≡◌, refl, List, [], ◌∷◌, Bool, true, false}
 use Rattle.script.specs.declared.Event.{Event}
 use Rattle.script.specs.declared.Event.TheVariants.{Read, Write, Line, Entry, Lost, Skip}
@@ -8,7 +8,24 @@ use Rattle.script.specs.Script.{followed, script_from, script_of}
 use Rattle.script.specs.Examples.{script01}
 use Rattle.numbers.specs.Number.{joined, groups_at, number_at}
 use Rattle.rules.specs.Chip.{chip55, chip240}
-use Rattle.old_scripts.specs.OldScripts.{avoids, names_own, is_old, are_old}
+use Rattle.old_scripts.specs.OldScripts.{parted, mixed_word, avoids, names_own, is_old, are_old}
+
+-- For these two chips: "E000E004, E000E104 to E11F, E184 to E19F, E204 to E21F, E284 to E29F, E304 to E31F, .. bytes E437 to E4EF, and E000ED08"
+parted_55_240 : parted chip55 chip240 ≡
+    record { first = 0xE000E004; last = 0xE000E004 }
+    ∷ record { first = 0xE000E104; last = 0xE000E11F }
+    ∷ record { first = 0xE000E184; last = 0xE000E19F }
+    ∷ record { first = 0xE000E204; last = 0xE000E21F }
+    ∷ record { first = 0xE000E284; last = 0xE000E29F }
+    ∷ record { first = 0xE000E304; last = 0xE000E31F }
+    ∷ record { first = 0xE000E437; last = 0xE000E4EF }
+    ∷ record { first = 0xE000ED08; last = 0xE000ED08 }
+    ∷ []
+parted_55_240 = refl
+
+-- "the word at E434"
+mixed_55 : mixed_word chip55 ≡ 0xE000E434
+mixed_55 = refl
 
 -- each event of a list by itself
 abbrev tested : List Event → List Bool
