@@ -9,7 +9,7 @@ use Rattle.rules.specs.Sound.{is_sound}
 use Rattle.demand1.specs.Demand1 as rules
 use Rattle.demand1.proofs.Demand1.{demand1}
 use Rattle.any_chip.specs.declared.State.{State}
-use Rattle.any_chip.specs.declared.Reply.{Reply}
+use Rattle.any_chip.specs.View.{Reply}
 use Rattle.any_chip.specs.View.{model, state, reply}
 use Rattle.any_chip.specs.ViewLaws.{Sized}
 use Rattle.any_chip.specs.Demand1.{Refused, CodeDemand1}

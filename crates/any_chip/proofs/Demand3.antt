@@ -14,7 +14,7 @@ use Rattle.demand3.specs.Demand3 as claim
 use Rattle.demand3.proofs.Demand3.{demand3}
 use Rattle.demand3.proofs.Steps.{step_keeps, sound_fresh}
 use Rattle.any_chip.specs.declared.State.{State}
-use Rattle.any_chip.specs.declared.Reply.{Reply}
+use Rattle.any_chip.specs.View.{Reply}
 use Rattle.any_chip.specs.View.{model, state, reply}
 use Rattle.any_chip.specs.Demand3.{answer, Called, stop, call, CodeDemand3}
 use Rattle.any_chip.proofs.View.{view_laws}

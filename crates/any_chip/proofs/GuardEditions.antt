@@ -14,7 +14,7 @@ use Rattle.rules.specs.Model.{Answer}
 use Rattle.guard_editions.specs.GuardEditions.{verdict_in}
 use Rattle.guard_editions.proofs.GuardEditions.{e12}
 use Rattle.any_chip.specs.declared.State.{State}
-use Rattle.any_chip.specs.declared.Reply.{Reply}
+use Rattle.any_chip.specs.View.{Reply}
 use Rattle.any_chip.specs.View.{model, reply}
 use Rattle.any_chip.specs.GuardEditions.{Asked, guarded_by, CodeGuardEditions}
 use Rattle.any_chip.proofs.View.{view_laws}

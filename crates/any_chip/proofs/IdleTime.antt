@@ -16,7 +16,7 @@ use Rattle.demand3.proofs.Steps.{step_keeps}
 use Rattle.idle_time.specs.IdleTime.{ticks, some_one}
 use Rattle.idle_time.proofs.IdleTime.{idle_time}
 use Rattle.any_chip.specs.declared.State.{State}
-use Rattle.any_chip.specs.declared.Reply.{Reply}
+use Rattle.any_chip.specs.View.{Reply}
 use Rattle.any_chip.specs.View.{model, state, reply}
 use Rattle.any_chip.specs.ViewLaws.{Sized}
 use Rattle.any_chip.specs.Demand3.{answer, Called, stop, call}

@@ -11,7 +11,7 @@ use Rattle.rules.specs.Chip.{chip_of}
 use Rattle.rules.specs.Step.{step_of}
 use Rattle.lost_pulses.proofs.LostPulses.{lost_pulses, calls_answered}
 use Rattle.any_chip.specs.declared.State.{State}
-use Rattle.any_chip.specs.declared.Reply.{Reply}
+use Rattle.any_chip.specs.View.{Reply}
 use Rattle.any_chip.specs.View.{reach_in, model, state, reply}
 use Rattle.any_chip.specs.ViewLaws.{Sized}
 use Rattle.any_chip.specs.Demand3.{answer}

@@ -15,7 +15,7 @@ use Rattle.demand3.proofs.Reached.{calls_sound}
 use Rattle.masks_hold_back.specs.MasksHoldBack.{Lowered, HeldBack, Raises}
 use Rattle.masks_hold_back.proofs.MasksHoldBack.{masks_hold_back}
 use Rattle.any_chip.specs.declared.State.{State}
-use Rattle.any_chip.specs.declared.Reply.{Reply}
+use Rattle.any_chip.specs.View.{Reply}
 use Rattle.any_chip.specs.View.{model, reply}
 use Rattle.any_chip.specs.Demand3.{answer}
 use Rattle.any_chip.specs.LostPulses.{FromFresh}

@@ -8,7 +8,7 @@ use Rattle.rules.specs.Model.{Answer}
 use Rattle.rules.specs.Step.{step_of}
 use Rattle.cortex_m0.proofs.SmallCore.{e10}
 use Rattle.any_chip.specs.declared.State.{State}
-use Rattle.any_chip.specs.declared.Reply.{Reply}
+use Rattle.any_chip.specs.View.{Reply}
 use Rattle.any_chip.specs.View.{model, reply}
 use Rattle.any_chip.specs.SmallCore.{Called, CodeSmallCore}
 use Rattle.any_chip.proofs.View.{view_laws}

@@ -2,11 +2,10 @@
 use Prim.Native.Nat.{ℕ, ◌+◌, ◌-◌, ◌≤◌}
 use mathlib.Core.Path.{◌≡◌, refl, sym, ap, ◌∙◌, subst}
 use mathlib.Core.Logic.{inl, inr}
-use mathlib.Core.List.{List, ◌++◌}
+use mathlib.Core.List.{◌++◌}
 use mathlib.Core.Bool.{false, not, ◌||◌}
 use native.Mathlib.Omega.{arith}
-use lib.ListN.{length, get_or, take, drop, replicate, length-replicate, replicate-append-replicate}
-use lib.Seq.{length-take-le}
+use lib.ListN.{length, get_or, drop, replicate, length-replicate, replicate-append-replicate}
 use lib.Dec.{eqb}
 use Rattle.bools.specs.Tests.{by_cases}
 use Rattle.script.specs.declared.Event.{Event}
@@ -25,7 +24,7 @@ use Rattle.places.specs.Places.{nonzero, occupied, Blocks, reach_of, padded}
 use Rattle.guarded.specs.FewLines.{FewLines}
 use Rattle.demand3.proofs.Check.{of_sound}
 use Rattle.demand3.proofs.Steps.{act_sound}
-use Rattle.any_chip.specs.declared.Reply.{Reply}
+use Rattle.any_chip.specs.View.{Reply}
 use Rattle.any_chip.specs.declared.State.{State}
 use Rattle.any_chip.specs.View.{reach_in, first_places, model, state, reply}
 use Rattle.any_chip.specs.ViewLaws.{Sized, ViewLaws}
@@ -73,33 +72,12 @@ setup_blocks s = blocks s.part
 pub reached_in : (s : State) {c : Chip} → c ≡ chip_of s.setup → reach_of c s.pending s.active s.enabled s.level s.priority s.nest s.lost ≡ reach_in s
 reached_in s ch = ap (λ (k : Chip). reach_of k s.pending s.active s.enabled s.level s.priority s.nest s.lost) ch
 
-pub record Within (r : Reach) (s : State) : Type 0 where
-  pub pending : r.places ≤ length s.pending
-  pub active : r.places ≤ length s.active
-  pub enabled : r.places ≤ length s.enabled
-  pub level : r.places ≤ length s.level
-  pub priority : r.places ≤ length s.priority
-  pub nest : r.nest ≤ length s.nest
-  pub lost : r.lost ≤ length s.lost
-
-pub within : (s : State) → Sized s → (r : Reach) → r ≡ reach_in s → Within r s
-within s z r q =
-    let f : r.places ≤ 256 = subst (λ (x : Reach). x.places ≤ 256) (sym q) (reach_fits _ _ 256 (flags_fit s.setup)) in
-    let g : r.nest ≤ 248 = subst (λ (x : Reach). x.nest ≤ 248) (sym q) (reach_fits _ _ 248 (nest_fits s.setup)) in
-    let l : r.lost ≤ 240 = subst (λ (x : Reach). x.lost ≤ 240) (sym q) (reach_fits _ _ 240 (lines_fit s.setup)) in
-    record {
-      pending = omega (arith, z.pending);
-      active = omega (arith, z.active);
-      enabled = omega (arith, z.enabled);
-      level = omega (arith, z.level);
-      priority = omega (arith, z.priority);
-      nest = omega (arith, z.nest);
-      lost = omega (arith, z.lost);
-    }
-
--- a part that is lent has as many places as were asked for
-pub front : {A : Type 0} (k : ℕ) (l : List A) → k ≤ length l → k ≡ length (take k l)
-front k l h = sym (length-take-le k l h)
+pub within : (s : State) (r : Reach) → r ≡ reach_in s → (r.places ≤ 256) × (r.nest ≤ 248) × (r.lost ≤ 240)
+within s r q = (
+  subst (λ (x : Reach). x.places ≤ 256) (sym q) (reach_fits _ _ 256 (flags_fit s.setup)),
+  subst (λ (x : Reach). x.nest ≤ 248) (sym q) (reach_fits _ _ 248 (nest_fits s.setup)),
+  subst (λ (x : Reach). x.lost ≤ 240) (sym q) (reach_fits _ _ 240 (lines_fit s.setup)),
+)
 
 -- ---- the two laws
 
@@ -246,7 +224,7 @@ put_back s z m h =
       core = m.core;
     }
 
-abbrev replied : Reach → State → Answer → Reply
+abbrev pub replied : Reach → State → Answer → Reply
 replied r s a = record { refusal = a.refusal; value = a.value; vector = a.vector; link = a.link; state = restored r s a.next }
 
 pub step_back : (s : State) → Sized s → (c : Chip) → c ≡ chip_of s.setup → (r : Reach) → r ≡ reach_in s → (e : Event) (a : Answer) → a ≡ step_of c (first_places r s) e → replied r s a ≡ reply s.setup (step_of (chip_of s.setup) (model s) e)

@@ -9,7 +9,7 @@ use Rattle.rules.specs.Chip.{chip_m0, chip_of}
 use Rattle.rules.specs.Model.{fresh}
 use Rattle.demand3.specs.Bounds.{Bounds, BoundsM0}
 use Rattle.any_chip.specs.declared.State.{State}
-use Rattle.any_chip.specs.declared.Reply.{Reply}
+use Rattle.any_chip.specs.View.{Reply}
 use Rattle.any_chip.specs.View.{model, state}
 use Rattle.any_chip.specs.Demand3.{answer, Called}
 

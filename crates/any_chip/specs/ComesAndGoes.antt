@@ -6,7 +6,7 @@ use Rattle.rules.specs.Chip.{chip_of}
 use Rattle.rules.specs.Sound.{Sound}
 use Rattle.demand3.specs.ComesAndGoes.{Restored}
 use Rattle.any_chip.specs.declared.State.{State}
-use Rattle.any_chip.specs.declared.Reply.{Reply}
+use Rattle.any_chip.specs.View.{Reply}
 use Rattle.any_chip.specs.View.{model}
 use Rattle.any_chip.specs.Demand3.{answer, Called}
 

@@ -7,7 +7,7 @@ use Rattle.rules.specs.Sound.{is_sound}
 use Rattle.rules.specs.Step.{step_of}
 use Rattle.demand1.specs.Demand1.{refusals}
 use Rattle.any_chip.specs.declared.State.{State}
-use Rattle.any_chip.specs.declared.Reply.{Reply}
+use Rattle.any_chip.specs.View.{Reply}
 use Rattle.any_chip.specs.View.{model, reply}
 use Rattle.any_chip.specs.ViewLaws.{Sized}
 

@@ -15,7 +15,7 @@ use Rattle.rules.specs.Access.{fits_access}
 use Rattle.rules.specs.Step.{step_of}
 use Rattle.guard_editions.specs.GuardEditions.{number, asks, verdict_in, ByRegions}
 use Rattle.any_chip.specs.declared.State.{State}
-use Rattle.any_chip.specs.declared.Reply.{Reply}
+use Rattle.any_chip.specs.View.{Reply}
 use Rattle.any_chip.specs.View.{model, reply}
 use Rattle.any_chip.specs.ViewLaws.{Sized}
 

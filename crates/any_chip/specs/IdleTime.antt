@@ -7,7 +7,7 @@ use Rattle.rules.specs.Chip.{chip_of}
 use Rattle.rules.specs.Step.{step_of}
 use Rattle.idle_time.specs.IdleTime.{ticks, some_one}
 use Rattle.any_chip.specs.declared.State.{State}
-use Rattle.any_chip.specs.declared.Reply.{Reply}
+use Rattle.any_chip.specs.View.{Reply}
 use Rattle.any_chip.specs.View.{model, reply}
 use Rattle.any_chip.specs.ViewLaws.{Sized}
 use Rattle.any_chip.specs.Demand3.{answer, Called}

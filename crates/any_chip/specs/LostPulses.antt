@@ -10,7 +10,7 @@ use Rattle.rules.specs.Sound.{Sound}
 use Rattle.rules.specs.Step.{step_of}
 use Rattle.lost_pulses.specs.History.{rises_lost}
 use Rattle.any_chip.specs.declared.State.{State}
-use Rattle.any_chip.specs.declared.Reply.{Reply}
+use Rattle.any_chip.specs.View.{Reply}
 use Rattle.any_chip.specs.View.{model, state, reply}
 use Rattle.any_chip.specs.ViewLaws.{Sized}
 use Rattle.any_chip.specs.Demand3.{answer, Called}

@@ -9,7 +9,7 @@ use Rattle.rules.specs.Sound.{Sound}
 use Rattle.rules.specs.Step.{step_of}
 use Rattle.masks_hold_back.specs.MasksHoldBack.{Lowered, HeldBack, Raises}
 use Rattle.any_chip.specs.declared.State.{State}
-use Rattle.any_chip.specs.declared.Reply.{Reply}
+use Rattle.any_chip.specs.View.{Reply}
 use Rattle.any_chip.specs.View.{model, reply}
 use Rattle.any_chip.specs.Demand3.{answer}
 use Rattle.any_chip.specs.LostPulses.{FromFresh}

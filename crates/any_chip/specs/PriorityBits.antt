@@ -11,7 +11,7 @@ use Rattle.rules.specs.Model.{fresh}
 use Rattle.rules.specs.Step.{step_of}
 use Rattle.demand3.specs.Demand3.{ledger}
 use Rattle.any_chip.specs.declared.State.{State}
-use Rattle.any_chip.specs.declared.Reply.{Reply}
+use Rattle.any_chip.specs.View.{Reply}
 use Rattle.any_chip.specs.View.{model, state, reply}
 use Rattle.any_chip.specs.ViewLaws.{Sized}
 use Rattle.any_chip.specs.Demand3.{answer, Called, CodeDemand3}

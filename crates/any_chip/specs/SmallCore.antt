@@ -12,7 +12,7 @@ use Rattle.rules.specs.Events.{pend}
 use Rattle.rules.specs.Step.{step_of}
 use Rattle.cortex_m0.specs.SmallCore.{listed, ed04}
 use Rattle.any_chip.specs.declared.State.{State}
-use Rattle.any_chip.specs.declared.Reply.{Reply}
+use Rattle.any_chip.specs.View.{Reply}
 use Rattle.any_chip.specs.View.{model, state, reply}
 use Rattle.any_chip.specs.ViewLaws.{Sized}
 

@@ -8,7 +8,7 @@ use Rattle.rules.specs.Chip.{chip_of}
 use Rattle.rules.specs.Model.{Model, Answer}
 use Rattle.rules.specs.Lent.{model_of}
 use Rattle.any_chip.specs.declared.State.{State}
-use Rattle.any_chip.specs.declared.Reply.{Reply}
+use Rattle.calls.specs.declared.Reply as calls
 
 -- how many places of its arrays are the chip's lists
 abbrev pub reach_in : State → Reach
@@ -36,6 +36,10 @@ state setup m =
       lost = padded 240 0 m.lost;
       core = m.core;
     }
+
+-- what a call hands back
+abbrev pub Reply : Type 0
+Reply = calls.Reply State
 
 abbrev pub reply : Setup → Answer → Reply
 reply setup a =

@@ -1,21 +1,21 @@
 // The state by value of every chip that a setup names, and the calls on it. Each call hands back its answer with the next state.
 #![tactic(auto)]
 
-ghost use Rattle.std.specs.Prelude.{◌≡◌, ◌&&◌};
+ghost use Rattle.std.specs.Prelude.{◌≡◌, ◌≤◌, ◌&&◌};
 ghost use Rattle.rules.specs.Chip.{chip_of, fits};
 ghost use Rattle.rules.specs.Model.{fresh, stack, depth_of, top};
 ghost use Rattle.rules.specs.Priorities.{execution};
 ghost use Rattle.rules.specs.Sound.{is_sound};
 ghost use Rattle.any_chip.specs.View.{reach_in, model, state};
 
-use places::Reach;
-use rules::{Core, Setup};
+use places::{Arrays, Reach};
+use rules::{Core, Lent, Setup};
 
-pub mod calls;
+mod stepped;
 
 // Flags and priority bytes stand at exception numbers; the nest holds the active exceptions, the newest last; `lost` counts the rises
 // that each line lost. A chip has the first places of each array, and the others are clear. `core` has the nest's depth and every part that holds no array of the chip's size.
-#[derive(Clone, Copy)]
+#[derive(Clone, Copy, PartialEq, Eq, Debug)]
 pub struct State {
     pub setup: Setup,
     pub pending: [bool; 256],
@@ -28,15 +28,8 @@ pub struct State {
     pub core: Core,
 }
 
-// An answer: the refusal or 0, the value, the vector address and link value of an entry, and the next state.
-#[derive(Clone, Copy)]
-pub struct Reply {
-    pub refusal: u32,
-    pub value: u32,
-    pub vector: u32,
-    pub link: u32,
-    pub state: State,
-}
+// What a call answers: its answer, and the next state.
+pub type Reply = calls::Reply<State>;
 
 impl State {
     pub fn fresh(setup: Setup) -> Self
@@ -58,33 +51,34 @@ impl State {
     // How many places of its arrays are lent to the code that every chip shares: where something stands past the chip's own, all of them, which
     // that code refuses by their number.
     pub fn reach(self) -> Reach
-        ensures { result ≡ reach_in self }
+        ensures value { result ≡ reach_in self }
+        ensures within { (result.places ≤ 256) × (result.nest ≤ 248) × (result.lost ≤ 240) }
     {
-        let setup = self.setup;
-        let pending = self.pending;
-        let active = self.active;
-        let enabled = self.enabled;
-        let level = self.level;
-        let priority = self.priority;
-        let nest = self.nest;
-        let lost = self.lost;
-        places::reach_of(
-            setup.chip(),
-            &pending,
-            &active,
-            &enabled,
-            &level,
-            &priority,
-            &nest,
-            &lost,
-        )
+        self.reached()
+    }
+
+    // The same of a state that stays where it is.
+    fn reached(&self) -> Reach
+        ensures value { result ≡ reach_in self.now }
+        ensures within { (result.places ≤ 256) × (result.nest ≤ 248) × (result.lost ≤ 240) }
+    {
+        let arrays = Arrays {
+            pending: &self.pending,
+            active: &self.active,
+            enabled: &self.enabled,
+            level: &self.level,
+            priority: &self.priority,
+            nest: &self.nest,
+            lost: &self.lost,
+        };
+        places::reach_of(self.setup.chip(), arrays)
     }
 
     // The newest of the nest, 0 in thread mode.
     pub fn top(self) -> u32
         ensures { result ≡ top (stack (model self)) }
     {
-        let reach = self.reach();
+        let reach = self.reached();
         let nest = self.nest;
         let core = self.core;
         nvic::nest::top_of(&nest[..reach.nest], core.depth)
@@ -102,7 +96,7 @@ impl State {
     pub fn execution_priority(self) -> i32
         ensures { result ≡ execution (model self) }
     {
-        let reach = self.reach();
+        let reach = self.reached();
         let active = self.active;
         let bytes = self.priority;
         let core = self.core;
@@ -118,33 +112,24 @@ impl State {
     }
 
     // The tests of refusals 17 and 16.
-    pub fn is_sound(self) -> bool
+    pub fn is_sound(mut self) -> bool
         ensures { result ≡ (fits (chip_of self.setup) && is_sound (chip_of self.setup) (model self)) }
     {
-        let setup = self.setup;
-        let chip = setup.chip();
+        let chip = self.setup.chip();
         if !chip.fits() {
             return false;
         }
-        let reach = self.reach();
-        let pending = self.pending;
-        let active = self.active;
-        let enabled = self.enabled;
-        let level = self.level;
-        let priority = self.priority;
-        let nest = self.nest;
-        let lost = self.lost;
-        let core = self.core;
-        sound_state::is_sound(
-            chip,
-            &pending[..reach.places],
-            &active[..reach.places],
-            &enabled[..reach.places],
-            &level[..reach.places],
-            &priority[..reach.places],
-            &nest[..reach.nest],
-            &lost[..reach.lost],
-            core,
-        )
+        let reach = self.reached();
+        let lent = Lent {
+            pending: &mut self.pending[..reach.places],
+            active: &mut self.active[..reach.places],
+            enabled: &mut self.enabled[..reach.places],
+            level: &mut self.level[..reach.places],
+            priority: &mut self.priority[..reach.places],
+            nest: &mut self.nest[..reach.nest],
+            lost: &mut self.lost[..reach.lost],
+            core: self.core,
+        };
+        sound_state::is_sound(chip, &lent)
     }
 }

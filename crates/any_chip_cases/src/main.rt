@@ -6,26 +6,26 @@ mod idle;
 mod lost_counts;
 mod nesting;
 mod registers;
-mod same;
 mod show;
 mod unsound_states;
 mod widths;
 
 use rules::Part;
 
-fn main() {
-    registers::lines();
-    registers::entries();
-    registers::kept_bits();
-    registers::triggers();
-    unsound_states::cases(Part::Lines55);
-    unsound_states::cases(Part::Lines240);
-    nesting::nest(Part::Lines240);
-    nesting::nest(Part::Lines55);
-    lost_counts::lost(Part::Lines55, 54, 55);
-    lost_counts::lost(Part::Lines240, 239, 240);
-    idle::skips(Part::Lines55);
-    idle::skips(Part::Lines240);
-    widths::kept();
-    widths::refused();
+fn main(rt: HostRuntime) -> std::io::Result<()> {
+    registers::lines(&rt)?;
+    registers::entries(&rt)?;
+    registers::kept_bits(&rt)?;
+    registers::triggers(&rt)?;
+    unsound_states::cases(&rt, Part::Lines55)?;
+    unsound_states::cases(&rt, Part::Lines240)?;
+    nesting::nest(&rt, Part::Lines240)?;
+    nesting::nest(&rt, Part::Lines55)?;
+    lost_counts::lost(&rt, Part::Lines55, 54, 55)?;
+    lost_counts::lost(&rt, Part::Lines240, 239, 240)?;
+    idle::skips(&rt, Part::Lines55)?;
+    idle::skips(&rt, Part::Lines240)?;
+    widths::kept(&rt)?;
+    widths::refused(&rt)?;
+    Ok(())
 }

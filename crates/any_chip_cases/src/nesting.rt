@@ -3,16 +3,16 @@
 use super::registers::{chip, written};
 use super::show::{looked, told};
 use any_chip::State;
+use calls::Calls;
 use rules::Part;
 use script::Event;
+use std::io::Result;
 
 // Every line enabled, the old chip refusing the third word on; SYSHNDCTRL bits 18:16 enable 4, 5 and 6.
 fn all_enabled(part: Part) -> State {
     let mut t = written(chip(part), 0xe000ed24, 0x70000);
-    let mut k: u32 = 0;
-    while k < 8 {
+    for k in 0..8 {
         t = written(t, 0xe000e100 + 4 * k, 0xffffffff);
-        k += 1;
     }
     t
 }
@@ -58,31 +58,27 @@ fn byte_of(k: u32) -> u32 {
 // What is pending enters, and makes its byte 0xE0. The old chip has nothing to enter for a line above 54, nor has any chip after a return.
 fn after(s: State, k: u32) -> State {
     let asked = s.step(event_of(k));
-    let t = asked.state;
-    let begun = t.entry();
-    let u = begun.state;
-    let r = u.write(1, byte_of(k), 0xe0);
-    r.state
+    let begun = asked.state.entry();
+    begun.state.write(1, byte_of(k), 0xe0).state
 }
 
 // After the events from one on.
-fn ran(label: &[u8], s: State, from: u32, end: u32) -> State {
+fn ran(rt: &impl Print, label: &str, s: State, from: u32, end: u32) -> Result<State> {
     let mut t = s;
-    let mut k = from;
-    while k < end {
+    for k in from..end {
         t = after(t, k);
-        k += 1;
     }
-    looked(label, t);
-    t
+    looked(rt, label, t)?;
+    Ok(t)
 }
 
 // The lines and eight system exceptions: 248, 63 on the old chip, which refuses to return to a handler once one is left.
-pub fn nest(part: Part) {
-    let s = ran(b"every line nested", all_enabled(part), 0, 240);
-    let s = ran(b"4, 5, 6, 11, 14, 15 nested too", s, 240, 246);
-    let s = ran(b"3, 2 nested too", s, 246, 248);
-    told(b"fault, every exception nested", s.fault(0, 0));
-    let s = ran(b"all but one returned", s, 248, 495);
-    ran(b"none nested", s, 495, 496);
+pub fn nest(rt: &impl Print, part: Part) -> Result<()> {
+    let s = ran(rt, "every line nested", all_enabled(part), 0, 240)?;
+    let s = ran(rt, "4, 5, 6, 11, 14, 15 nested too", s, 240, 246)?;
+    let s = ran(rt, "3, 2 nested too", s, 246, 248)?;
+    told(rt, "fault, every exception nested", s.fault(0, 0))?;
+    let s = ran(rt, "all but one returned", s, 248, 495)?;
+    ran(rt, "none nested", s, 495, 496)?;
+    Ok(())
 }

@@ -2,11 +2,12 @@
 ghost use Rattle.std.specs.Prelude.{◌<◌};
 
 use super::registers::chip;
-use super::same::same_state;
-use super::show::{begin, decimal, judged, text};
+use super::show::{Case, judged};
 use any_chip::{Reply, State};
+use calls::Calls;
 use rules::Part;
 use script::Event;
+use std::io::Result;
 
 // The lists of a state.
 #[derive(Clone, Copy)]
@@ -57,38 +58,38 @@ fn called(s: State, call: u32) -> Reply {
 }
 
 // The refusal, and whether anything else is not 0 or moved.
-fn refused(before: State, r: Reply) {
-    decimal(r.refusal);
-    let after = r.state;
-    if r.value == 0 && r.vector == 0 && r.link == 0 && same_state(before, after) {
-        return;
-    }
-    text(b" and more");
+fn refused(rt: &impl Print, before: State, r: Reply) -> Result<()> {
+    let nothing = r.value == 0 && r.vector == 0 && r.link == 0 && r.state == before;
+    let more = if nothing { "" } else { " and more" };
+    print!(rt; " {}{more}", r.refusal)
 }
 
-fn every_call(s: State) {
-    let mut call: u32 = 0;
-    while call < 14 {
-        refused(s, called(s, call));
-        call += 1;
+fn every_call(rt: &impl Print, s: State) -> Result<()> {
+    for call in 0..14 {
+        refused(rt, s, called(s, call))?;
     }
+    Ok(())
 }
 
 // Whether it is sound; if it is not, what every call says.
-pub fn tried(label: &[u8], s: State) {
-    begin(s.setup, label);
+pub fn tried(rt: &impl Print, label: &str, s: State) -> Result<()> {
     let sound = s.is_sound();
-    judged(sound);
+    let case = Case {
+        setup: s.setup,
+        label,
+    };
+    print!(rt; "{case} {}", judged(sound))?;
     if !sound {
-        every_call(s);
+        every_call(rt, s)?;
     }
-    text(b"\n");
+    println!(rt; "")
 }
 
-fn place(label: &[u8], part: Part, field: Field, i: usize)
+fn place(rt: &impl Print, label: &str, part: Part, field: Field, i: usize) -> Result<()>
     requires { i < 240 }
 {
-    tried(label, poked(chip(part), field, i));
+    tried(rt, label, poked(chip(part), field, i))?;
+    Ok(())
 }
 
 // 20 is active and not nested.
@@ -97,39 +98,36 @@ pub fn unsound(s: State) -> State {
 }
 
 // "the nested exceptions are distinct and exactly the active ones", so that an active flag or a place of the nest alone is sound on no chip.
-fn nested(part: Part) {
+fn nested(rt: &impl Print, part: Part) -> Result<()> {
     let mut s = poked(chip(part), Field::Active, 100);
     s.nest[0] = 100;
-    let mut core = s.core;
-    core.depth = 1;
-    s.core = core;
-    tried(b"active at 100, nested", s);
+    s.core.depth = 1;
+    tried(rt, "active at 100, nested", s)?;
+    Ok(())
 }
 
-fn table(label: &[u8], part: Part, vtable: u32) {
+fn table(rt: &impl Print, label: &str, part: Part, vtable: u32) -> Result<()> {
     let mut s = chip(part);
-    let mut core = s.core;
-    let mut system = core.system;
-    system.vtable = vtable;
-    core.system = system;
-    s.core = core;
-    tried(label, s);
+    s.core.system.vtable = vtable;
+    tried(rt, label, s)?;
+    Ok(())
 }
 
 // The old chip has numbers 0 to 70, 63 places of the nest and 55 lines, the new one 0 to 255, 248 and 240; 7 is no exception. Bit 9 of VTABLE is kept by the
 // old chip only, bit 30 by neither.
-pub fn cases(part: Part) {
-    place(b"pending at 100", part, Field::Pending, 100);
-    place(b"active at 100", part, Field::Active, 100);
-    place(b"enabled at 100", part, Field::Enabled, 100);
-    place(b"level at 100", part, Field::Level, 100);
-    place(b"priority 0x20 at 100", part, Field::Priority, 100);
-    place(b"nest place 100", part, Field::Nest, 100);
-    place(b"count 1 of line 54", part, Field::Lost, 54);
-    place(b"count 1 of line 55", part, Field::Lost, 55);
-    place(b"count 1 of line 239", part, Field::Lost, 239);
-    nested(part);
-    place(b"pending at 7", part, Field::Pending, 7);
-    table(b"VTABLE 0x200 in the state", part, 0x200);
-    table(b"VTABLE 0x40000000 in the state", part, 0x40000000);
+pub fn cases(rt: &impl Print, part: Part) -> Result<()> {
+    place(rt, "pending at 100", part, Field::Pending, 100)?;
+    place(rt, "active at 100", part, Field::Active, 100)?;
+    place(rt, "enabled at 100", part, Field::Enabled, 100)?;
+    place(rt, "level at 100", part, Field::Level, 100)?;
+    place(rt, "priority 0x20 at 100", part, Field::Priority, 100)?;
+    place(rt, "nest place 100", part, Field::Nest, 100)?;
+    place(rt, "count 1 of line 54", part, Field::Lost, 54)?;
+    place(rt, "count 1 of line 55", part, Field::Lost, 55)?;
+    place(rt, "count 1 of line 239", part, Field::Lost, 239)?;
+    nested(rt, part)?;
+    place(rt, "pending at 7", part, Field::Pending, 7)?;
+    table(rt, "VTABLE 0x200 in the state", part, 0x200)?;
+    table(rt, "VTABLE 0x40000000 in the state", part, 0x40000000)?;
+    Ok(())
 }

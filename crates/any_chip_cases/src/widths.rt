@@ -5,6 +5,7 @@ use super::unsound_states::{tried, unsound};
 use any_chip::State;
 use mpu::Edition;
 use rules::{Part, Setup};
+use std::io::Result;
 
 fn keeping(bits: u32) -> State {
     State::fresh(Setup {
@@ -15,60 +16,55 @@ fn keeping(bits: u32) -> State {
 }
 
 // The top w bits of 0xFF, of a line and of 14 and 15.
-fn kept_with(w: u32) {
+fn kept_with(rt: &impl Print, w: u32) -> Result<()> {
     kept_by(
-        b"byte E400 after 0xFF",
+        rt,
+        "byte E400 after 0xFF",
         keeping(w),
         1,
         0xe000e400,
         0xff,
         0xe000e400,
-    );
+    )?;
     kept_by(
-        b"ED20 after ones",
+        rt,
+        "ED20 after ones",
         keeping(w),
         4,
         0xe000ed20,
         0xffffffff,
         0xe000ed20,
-    );
+    )?;
+    Ok(())
 }
 
 // 2 and 9 are refused.
-pub fn kept() {
-    kept_with(2);
-    kept_with(3);
-    kept_with(4);
-    kept_with(5);
-    kept_with(6);
-    kept_with(7);
-    kept_with(8);
-    kept_with(9);
+pub fn kept(rt: &impl Print) -> Result<()> {
+    for w in 2..10 {
+        kept_with(rt, w)?;
+    }
+    Ok(())
 }
 
-fn tried_with(bits: u32) {
-    tried(b"fresh", keeping(bits));
-    tried(b"active at 20", unsound(keeping(bits)));
+fn tried_with(rt: &impl Print, bits: u32) -> Result<()> {
+    tried(rt, "fresh", keeping(bits))?;
+    tried(rt, "active at 20", unsound(keeping(bits)))?;
+    Ok(())
 }
 
 // PRIMASK is set in the state: the execution priority is told whatever the setup is.
-fn looked_with(bits: u32) {
+fn looked_with(rt: &impl Print, bits: u32) -> Result<()> {
     let mut s = keeping(bits);
-    let mut core = s.core;
-    let mut masks = core.masks;
-    masks.primask = true;
-    core.masks = masks;
-    s.core = core;
-    looked(b"PRIMASK in the state", s);
+    s.core.masks.primask = true;
+    looked(rt, "PRIMASK in the state", s)?;
+    Ok(())
 }
 
 // "a chip setup with w outside 3 to 8, checked before all others, 15 and 16 too"
-pub fn refused() {
-    tried_with(2);
-    tried_with(3);
-    tried_with(8);
-    tried_with(9);
-    tried_with(0);
-    tried_with(0xffffffff);
-    looked_with(9);
+pub fn refused(rt: &impl Print) -> Result<()> {
+    for bits in [2, 3, 8, 9, 0, 0xffffffff] {
+        tried_with(rt, bits)?;
+    }
+    looked_with(rt, 9)?;
+    Ok(())
 }

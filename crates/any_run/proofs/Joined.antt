@@ -3,7 +3,6 @@ use Prim.Native.Nat.{ℕ}
 use mathlib.Core.Path.{◌≡◌, refl, sym, ◌∙◌, subst}
 use mathlib.Core.List.{List, ◌++◌}
 use Rattle.numbers.specs.NumberLaws.{Bytes}
-use Rattle.rules.specs.declared.Chip.{Chip}
 use Rattle.rules.specs.declared.Setup.{Setup}
 use Rattle.rules.specs.Chip.{chip_of}
 use Rattle.rules.specs.Model.{Model, fresh}
@@ -14,8 +13,7 @@ use Rattle.pieces.specs.Joined as lent
 use Rattle.pieces.proofs.Joined.{pieces_joined}
 use Rattle.any_chip.specs.View.{model, state}
 use Rattle.any_chip.proofs.View.{view_laws}
-use Rattle.any_run.specs.declared.Progress.{Progress}
-use Rattle.any_run.specs.Progress.{chip, course, started, rest_of}
+use Rattle.any_run.specs.Progress.{Progress, chip, course, started}
 use Rattle.any_run.specs.Joined.{Continued, stop, call, CodeJoined}
 
 same_setup : {script : List ℕ} {p r : Progress} {outs pieces : List (List ℕ)} → Continued script p outs pieces r → r.state.setup ≡ p.state.setup

@@ -26,8 +26,7 @@ use Rattle.any_chip.specs.declared.State.{State}
 use Rattle.any_chip.specs.View.{reach_in, first_places, model, state}
 use Rattle.any_chip.specs.ViewLaws.{Sized}
 use Rattle.any_chip.proofs.View.{view_laws, SameLengths, unchanged, both_sound, restored, put_back}
-use Rattle.any_run.specs.declared.Progress.{Progress}
-use Rattle.any_run.specs.Progress.{chip, course, Ran}
+use Rattle.any_run.specs.Progress.{Progress, chip, course, Ran}
 
 abbrev Left : Chip → Model → Model → Type 0
 Left c m t = (t ≡ m) ⊎ (Sound c t × Sound c m)

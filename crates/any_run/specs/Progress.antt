@@ -7,7 +7,11 @@ use Rattle.rules.specs.Model.{fresh}
 use Rattle.pieces.specs.declared.Course.{Course}
 use Rattle.pieces.specs.Pieces as pieces
 use Rattle.any_chip.specs.View.{model, state}
-use Rattle.any_run.specs.declared.Progress.{Progress}
+use Rattle.any_chip.specs.declared.State.{State}
+use Rattle.pieces.specs.declared.Progress as by_value
+
+abbrev pub Progress : Type 0
+Progress = by_value.Progress State
 
 abbrev pub chip : Progress → Chip
 chip p = chip_of p.state.setup

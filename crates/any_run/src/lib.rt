@@ -4,24 +4,19 @@
 ghost use Rattle.std.specs.Prelude.{◌≡◌, List, ℕ};
 ghost use Rattle.rules.specs.Chip.{chip_of};
 ghost use Rattle.text.specs.Text.{text_of};
+ghost use Rattle.rules.specs.Lent.{model_of};
+ghost use Rattle.guarded.specs.FewLines.{FewLines};
+ghost use Rattle.pieces.specs.Pieces as pieces;
 ghost use Rattle.any_run.specs.Progress.{started, rest_of, Usable, Ran};
 
 use any_chip::State;
 use pieces::Course;
-use rules::Setup;
+use rules::{Chip, Lent, Setup};
 
 // How far a script has run: the state after `events` events, the offset of the next, whether the script has ended, how many bytes of the
 // buffer the last call wrote, and 17 or 16 where it was refused: the setup keeps no 3 to 8 bits of a priority byte; the state is not sound, or no
 // script has so many events in so many bytes.
-#[derive(Clone, Copy)]
-pub struct Progress {
-    pub state: State,
-    pub at: usize,
-    pub events: u32,
-    pub wrote: usize,
-    pub ended: bool,
-    pub refusal: u32,
-}
+pub type Progress = pieces::Progress<State>;
 
 // Before the first event of any script, whatever the setup: one that keeps no 3 to 8 bits is refused by `run_some`.
 pub fn start(setup: Setup) -> Progress
@@ -39,22 +34,63 @@ pub fn start(setup: Setup) -> Progress
     }
 }
 
+// A run on lists. They are parameters, and one `Lent` only here: lent from arrays through a struct, what the places of an array hold after the call
+// stays open in the proof of `run_some`.
+fn run_on(
+    chip: Chip,
+    script: &[u8],
+    pending: &mut [bool],
+    active: &mut [bool],
+    enabled: &mut [bool],
+    level: &mut [bool],
+    priority: &mut [u8],
+    nest: &mut [u8],
+    lost: &mut [u16],
+    course: Course,
+    out: &mut [u8],
+) -> Course
+    requires { FewLines chip }
+    ensures { pieces.Ran chip script.now (model_of pending.old active.old enabled.old level.old priority.old nest.old lost.old course.core) course out.old (model_of pending.new active.new enabled.new level.new priority.new nest.new lost.new result.core) result out.new }
+{
+    let mut lent = Lent {
+        pending,
+        active,
+        enabled,
+        level,
+        priority,
+        nest,
+        lost,
+        core: course.core,
+    };
+    let r = running::run_some(chip, script, &mut lent, course, out);
+    Course {
+        core: lent.core,
+        at: r.at,
+        events: r.events,
+        wrote: r.wrote,
+        ended: r.ended,
+        refusal: r.refusal,
+    }
+}
+
 // Goes on with a script from where the last call left it, and writes as many lines as fit into `out`. With room for a line each call ends the
 // script or moves on in it.
 pub fn run_some(script: &[u8], progress: Progress, out: &mut [u8]) -> Progress
     ensures { Ran script.now progress out.old result out.new }
 {
     let state = progress.state;
-    let setup = state.setup;
     let reach = state.reach();
-    let mut pending = state.pending;
-    let mut active = state.active;
-    let mut enabled = state.enabled;
-    let mut level = state.level;
-    let mut priority = state.priority;
-    let mut nest = state.nest;
-    let mut lost = state.lost;
-    let core = state.core;
+    let State {
+        setup,
+        mut pending,
+        mut active,
+        mut enabled,
+        mut level,
+        mut priority,
+        mut nest,
+        mut lost,
+        core,
+    } = state;
     let course = Course {
         core,
         at: progress.at,
@@ -63,7 +99,7 @@ pub fn run_some(script: &[u8], progress: Progress, out: &mut [u8]) -> Progress
         ended: progress.ended,
         refusal: progress.refusal,
     };
-    let r = running::run_some(
+    let r = run_on(
         setup.chip(),
         script,
         &mut pending[..reach.places],
@@ -76,8 +112,7 @@ pub fn run_some(script: &[u8], progress: Progress, out: &mut [u8]) -> Progress
         course,
         out,
     );
-    let left = r.core;
-    let next = State {
+    let state = State {
         setup,
         pending,
         active,
@@ -86,10 +121,10 @@ pub fn run_some(script: &[u8], progress: Progress, out: &mut [u8]) -> Progress
         priority,
         nest,
         lost,
-        core: left,
+        core: r.core,
     };
     Progress {
-        state: next,
+        state,
         at: r.at,
         events: r.events,
         wrote: r.wrote,

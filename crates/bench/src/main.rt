@@ -5,14 +5,14 @@ const STDIN_FILENO: i32 = 0;
 
 const STDOUT_FILENO: i32 = 1;
 
-// The buffer has room for a line, so each call ends the script or moves on in it.
+// The buffer has room for a line, so each call ends the script or moves on in it. A while: the script's end ends it, which is no index. The text is
+// bytes in fixed memory, which `io` writes in one call, as std's writer would.
 fn run_all(script: &[u8]) {
     let mut out = io::large_buffer();
     let mut progress = run::start();
     while !progress.ended {
         progress = run::run_some(script, progress, &mut out);
-        let wrote = progress.wrote;
-        io::write_all(STDOUT_FILENO, &out[..wrote]);
+        io::write_all(STDOUT_FILENO, &out[..progress.wrote]);
     }
 }
 

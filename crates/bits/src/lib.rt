@@ -65,7 +65,7 @@ pub fn byte_of(x: u32, i: u32) -> u8
 pub fn wide(x: u8) -> u32
     ensures { (result ≡ x) × (result < 256) }
 {
-    x as u32
+    u32::from(x)
 }
 
 // Four bytes as a word, lowest first.
@@ -79,5 +79,5 @@ pub fn word_of_bytes(b0: u8, b1: u8, b2: u8, b3: u8) -> u32
 pub fn bit_of(flag: bool) -> u32
     ensures { result ≡ bit flag }
 {
-    flag as u32
+    u32::from(flag)
 }

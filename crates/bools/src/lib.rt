@@ -6,5 +6,5 @@ ghost use Rattle.std.specs.Prelude.{◌≡◌, ◌&&◌};
 pub fn both(a: bool, b: bool) -> bool
     ensures { result ≡ a && b }
 {
-    if a { b } else { false }
+    a && b
 }

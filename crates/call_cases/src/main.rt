@@ -8,27 +8,25 @@ use model::State;
 mod command;
 mod parse;
 mod poke;
-mod same;
 mod scripts;
 mod show;
 
 const STDIN_FILENO: i32 = 0;
 
-fn run(text: &[u8]) {
+fn run(rt: &impl Print, text: &[u8]) -> std::io::Result<()> {
     let mut bench = Bench {
         state: State::fresh(),
         kept: State::fresh(),
     };
-    let mut at = 0;
-    while at < text.len() {
-        let end = parse::line_end(text, at);
-        bench = command::obeyed(bench, &text[at..end]);
-        at = end + 1;
+    for line in text.split(|b| *b == b'\n') {
+        bench = bench.obeyed(rt, line)?;
     }
+    Ok(())
 }
 
-fn main() {
+// `io` reads the input into fixed memory.
+fn main(rt: HostRuntime) -> std::io::Result<()> {
     let mut space = io::large_buffer();
     let n = io::read_full(STDIN_FILENO, &mut space);
-    run(&space[..n]);
+    run(&rt, &space[..n])
 }

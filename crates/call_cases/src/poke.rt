@@ -5,139 +5,93 @@ use rules::{Core, Masks, System};
 use systick::Timer;
 
 // A flag or a priority byte: they are held for the numbers 0 to 70. Past the last nothing is changed.
-fn poked_flags(mut s: State, field: u32, i: u32, v: u32) -> State {
-    let n = i as usize;
+fn poke_number(s: &mut State, field: &[u8], n: usize, v: u32) {
     if 71 <= n {
-        return s;
+        return;
     }
     match field {
-        0x70656e64 => s.pending[n] = v == 1, // pend
-        0x61637469 => s.active[n] = v == 1, // acti
-        0x656e6162 => s.enabled[n] = v == 1, // enab
-        0x6c657665 => s.level[n] = v == 1, // leve
-        0x7072696f => s.priority[n] = bits::byte_of(v, 0), // prio
+        b"pend" => s.pending[n] = v == 1,
+        b"acti" => s.active[n] = v == 1,
+        b"enab" => s.enabled[n] = v == 1,
+        b"leve" => s.level[n] = v == 1,
+        b"prio" => s.priority[n] = bits::byte_of(v, 0),
         _ => {}
     }
-    s
 }
 
-// A place of the nest, which has one for each of the 63 exceptions. Past the last nothing is changed.
-fn poked_nest(mut s: State, field: u32, i: u32, v: u32) -> State {
-    let n = i as usize;
-    if 63 <= n {
-        return s;
-    }
+// A place of the nest, which has one for each of the 63 exceptions, or a count, of each of the 55 lines. Past the last nothing is changed.
+fn poke_place(s: &mut State, field: &[u8], n: usize, v: u32) {
     match field {
-        0x6e657374 => s.nest[n] = bits::byte_of(v, 0), // nest
+        b"nest" if n < 63 => s.nest[n] = bits::byte_of(v, 0),
+        b"lost" if n < 55 => s.lost[n] = (v % 65536) as u16,
         _ => {}
     }
-    s
 }
 
-// A count, of each of the 55 lines. Past the last nothing is changed.
-fn poked_lost(mut s: State, field: u32, i: u32, v: u32) -> State {
-    let n = i as usize;
-    if 55 <= n {
-        return s;
-    }
+fn poke_masks(m: &mut Masks, field: &[u8], v: u32) {
     match field {
-        0x6c6f7374 => s.lost[n] = (v % 65536) as u16, // lost
+        b"base" => m.basepri = bits::byte_of(v, 0),
+        b"npri" => m.npriv = v == 1,
+        b"spse" => m.spsel = v == 1,
         _ => {}
     }
-    s
 }
 
-fn poked_masks(mut m: Masks, field: u32, v: u32) -> Masks {
+fn poke_system(x: &mut System, field: &[u8], v: u32) {
     match field {
-        0x62617365 => m.basepri = bits::byte_of(v, 0), // base
-        0x6e707269 => m.npriv = v == 1, // npri
-        0x73707365 => m.spsel = v == 1, // spse
+        b"vtab" => x.vtable = v,
+        b"sysc" => x.sysctrl = v,
+        b"cfgc" => x.cfgctrl = v,
+        b"faul" => x.faultstat = v,
+        b"hfau" => x.hfaultstat = v,
         _ => {}
     }
-    m
 }
 
-fn poked_system(mut x: System, field: u32, v: u32) -> System {
+fn poke_timer(t: &mut Timer, field: &[u8], v: u32) {
     match field {
-        0x76746162 => x.vtable = v, // vtab
-        0x73797363 => x.sysctrl = v, // sysc
-        0x63666763 => x.cfgctrl = v, // cfgc
-        0x6661756c => x.faultstat = v, // faul
-        0x68666175 => x.hfaultstat = v, // hfau
+        b"stct" => t.control = v,
+        b"stre" => t.reload = v,
+        b"stcu" => t.current = v,
         _ => {}
     }
-    x
 }
 
-fn poked_timer(mut t: Timer, field: u32, v: u32) -> Timer {
-    match field {
-        0x73746374 => t.control = v, // stct
-        0x73747265 => t.reload = v, // stre
-        0x73746375 => t.current = v, // stcu
-        _ => {}
-    }
-    t
-}
-
-// MAIR0 or MAIR1.
-fn poked_plain(mut g: Mpu, i: u32, v: u32) -> Mpu {
-    if i == 0 {
-        g.mair0 = v;
-        return g;
-    }
-    g.mair1 = v;
-    g
-}
-
-fn poked_guard(mut g: Mpu, field: u32, i: u32, v: u32) -> Mpu {
-    let n = i as usize;
+// Of MAIR0 and MAIR1 the one that i names.
+fn poke_guard(g: &mut Mpu, field: &[u8], n: usize, v: u32) {
     if 8 <= n {
-        return g;
+        return;
     }
     match field {
-        0x67756172 => g.control = v, // guar
-        0x72656769 => g.region = v, // regi
-        0x72626173 => g.bases[n] = v, // rbas
-        0x61747472 => g.attributes[n] = v, // attr
-        0x6d616972 => return poked_plain(g, i, v), // mair
+        b"guar" => g.control = v,
+        b"regi" => g.region = v,
+        b"rbas" => g.bases[n] = v,
+        b"attr" => g.attributes[n] = v,
+        b"mair" if n == 0 => g.mair0 = v,
+        b"mair" => g.mair1 = v,
         _ => {}
     }
-    g
 }
 
-fn poked_core(mut c: Core, field: u32, i: u32, v: u32) -> Core {
+fn poke_core(c: &mut Core, field: &[u8], n: usize, v: u32) {
     match field {
-        0x64657074 => c.depth = v as usize, // dept
-        0x67726f75 => c.group = v, // grou
+        b"dept" => c.depth = v as usize,
+        b"grou" => c.group = v,
         _ => {}
     }
-    let masks = c.masks;
-    let system = c.system;
-    let timer = c.timer;
-    let guard = c.guard;
-    let next_masks = poked_masks(masks, field, v);
-    let next_system = poked_system(system, field, v);
-    let next_timer = poked_timer(timer, field, v);
-    let next_guard = poked_guard(guard, field, i, v);
-    c.masks = next_masks;
-    c.system = next_system;
-    c.timer = next_timer;
-    c.guard = next_guard;
-    c
+    poke_masks(&mut c.masks, field, v);
+    poke_system(&mut c.system, field, v);
+    poke_timer(&mut c.timer, field, v);
+    poke_guard(&mut c.guard, field, n, v);
 }
 
 // A field by its first four letters; of a list the element i.
-pub fn poked(s: State, field: u32, i: u32, v: u32) -> State {
-    let mut t = poked_lost(
-        poked_nest(poked_flags(s, field, i, v), field, i, v),
-        field,
-        i,
-        v,
-    );
-    let core = t.core;
-    let next = poked_core(core, field, i, v);
-    t.core = next;
-    t
+pub fn poked(mut s: State, field: &[u8], i: u32, v: u32) -> State {
+    let n = i as usize;
+    poke_number(&mut s, field, n, v);
+    poke_place(&mut s, field, n, v);
+    poke_core(&mut s.core, field, n, v);
+    s
 }
 
 // Every exception.
@@ -150,19 +104,11 @@ const ALL: [u8; 63] = [
 // Every exception active and nested.
 pub fn filled(mut s: State) -> State {
     let mut flags = [true; 71];
-    flags[0] = false;
-    flags[1] = false;
-    flags[7] = false;
-    flags[8] = false;
-    flags[9] = false;
-    flags[10] = false;
-    flags[12] = false;
-    flags[13] = false;
-    let nest = ALL;
+    for i in [0, 1, 7, 8, 9, 10, 12, 13] {
+        flags[i] = false;
+    }
     s.active = flags;
-    s.nest = nest;
-    let mut core = s.core;
-    core.depth = 63;
-    s.core = core;
+    s.nest = ALL;
+    s.core.depth = 63;
     s
 }

@@ -2,6 +2,7 @@
 use super::show::ran;
 use model::State;
 use run::Progress;
+use std::io::Result;
 
 fn reached(s: State, at: u32, events: u32) -> Progress {
     Progress {
@@ -15,18 +16,16 @@ fn reached(s: State, at: u32, events: u32) -> Progress {
 }
 
 // NMI, a tick, NMI, and a kind that is unknown.
-pub fn scripted(line: &[u8], s: State, at: u32, events: u32) -> State {
+pub fn scripted(rt: &impl Print, line: &[u8], s: State, at: u32, events: u32) -> Result<State> {
     let mut out = [0u8; 60];
     let r = run::run_some(b"\x04\x05\x04\x0e", reached(s, at, events), &mut out);
-    ran(line, s, r, &out);
-    r.state
+    ran(rt, line, s, r, &out)
 }
 
 // More ticks than a script may have bytes.
-pub fn too_long(line: &[u8], s: State, at: u32, events: u32) -> State {
+pub fn too_long(rt: &impl Print, line: &[u8], s: State, at: u32, events: u32) -> Result<State> {
     let script = [5u8; 65537];
     let mut out = [0u8; 60];
     let r = run::run_some(&script, reached(s, at, events), &mut out);
-    ran(line, s, r, &out);
-    r.state
+    ran(rt, line, s, r, &out)
 }

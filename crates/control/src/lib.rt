@@ -8,7 +8,8 @@ ghost use Rattle.rules.specs.Reads.{intctrl_value, syshndctrl_value};
 ghost use Rattle.rules.specs.Writes.{set_or_clear, intctrl_written, syshndctrl_written, apint_written, swtrig_written};
 ghost use Rattle.control.specs.Shown.{enables_shown, pendings_shown, actives_shown};
 
-use nvic::flags::{flag_at, store_flag};
+use nvic::flags::flag_at;
+use nvic::lists::store;
 use rules::Chip;
 
 // A flag as a bit of the given weight.
@@ -46,9 +47,9 @@ fn set_or_clear(pending: &mut [bool], n: usize, sets: bool, clears: bool)
     ensures { pending.new ≡ set_or_clear n sets clears pending.old }
 {
     if clears {
-        store_flag(pending, n, false);
+        store(pending, n, false);
     } else if sets {
-        store_flag(pending, n, true);
+        store(pending, n, true);
     }
 }
 
@@ -98,9 +99,9 @@ pub fn syshndctrl_value(pending: &[bool], active: &[bool], enabled: &[bool]) -> 
 pub fn syshndctrl_written(enabled: &mut [bool], v: u32)
     ensures { enabled.new ≡ syshndctrl_written v enabled.old }
 {
-    store_flag(enabled, 4, bits::test_bit(v, 16));
-    store_flag(enabled, 5, bits::test_bit(v, 17));
-    store_flag(enabled, 6, bits::test_bit(v, 18));
+    store(enabled, 4, bits::test_bit(v, 16));
+    store(enabled, 5, bits::test_bit(v, 17));
+    store(enabled, 6, bits::test_bit(v, 18));
 }
 
 // The group setting after v is written to APINT.
@@ -118,6 +119,6 @@ pub fn swtrig_written(pending: &mut [bool], chip: Chip, v: u32)
 {
     let line = bits::field(v, 8, 0);
     if line < chip.lines {
-        store_flag(pending, 16 + line as usize, true);
+        store(pending, 16 + line as usize, true);
     }
 }

@@ -12,8 +12,7 @@ use Rattle.bools.specs.Tests.{false_is, is_false, of_or, by_cases}
 use Rattle.bits.specs.Words.{field, bit_at}
 use Rattle.grouping.specs.Grouping.{kept_byte, grouped}
 use Rattle.flag_words.specs.Flags.{on}
-use Rattle.priority.specs.declared.Found.{Found}
-use Rattle.priority.specs.declared.Found.TheVariants.{At, Nothing}
+use Rattle.std.specs.Prelude.{Option, Some, None}
 use Rattle.script.specs.declared.AccessKind.{AccessKind}
 use Rattle.script.specs.declared.Event.TheVariants as event
 use Rattle.rules.specs.declared.System.{System}
@@ -56,7 +55,7 @@ abbrev usage : ℕ → Bool
 usage b = is_in b (16 ∷ 17 ∷ 18 ∷ 19 ∷ 24 ∷ 25 ∷ [])
 
 -- a listed bit names 4, 5 or 6
-named : (P : Found → Type 0) (b : ℕ) → T (is_in b listed) → P (At 4) → P (At 5) → P (At 6) → P (fault_exception b)
+named : (P : Option ℕ → Type 0) (b : ℕ) → T (is_in b listed) → P (Some 4) → P (Some 5) → P (Some 6) → P (fault_exception b)
 unfolding fault_exception all
 named P b t four five six =
     by_cases P (manage b) (λ _. four)
@@ -65,12 +64,12 @@ named P b t four five six =
     (λ n3. absurd (T_not (usage b) n3 (of_or (bus b) (usage b) (of_or (manage b) (bus b || usage b) (in_all (λ n. manage n || (bus n || usage n)) b listed tt t) (T_not (manage b) n1)) (T_not (bus b) n2))))))
 
 -- and no other bit names one
-unlisted_none : (b : ℕ) → is_in b listed ≡ false → fault_exception b ≡ Nothing
+unlisted_none : (b : ℕ) → is_in b listed ≡ false → fault_exception b ≡ None
 unfolding fault_exception all
 unlisted_none b q =
-    by_cases (λ (o : Found). o ≡ Nothing) (manage b) (λ i. absurd (is_false q (in_all (λ n. is_in n listed) b (0 ∷ 1 ∷ []) tt i)))
-    (λ _. by_cases (λ (o : Found). o ≡ Nothing) (bus b) (λ i. absurd (is_false q (in_all (λ n. is_in n listed) b (8 ∷ 9 ∷ []) tt i)))
-    (λ _. by_cases (λ (o : Found). o ≡ Nothing) (usage b) (λ i. absurd (is_false q (in_all (λ n. is_in n listed) b (16 ∷ 17 ∷ 18 ∷ 19 ∷ 24 ∷ 25 ∷ []) tt i)))
+    by_cases (λ (o : Option ℕ). o ≡ None) (manage b) (λ i. absurd (is_false q (in_all (λ n. is_in n listed) b (0 ∷ 1 ∷ []) tt i)))
+    (λ _. by_cases (λ (o : Option ℕ). o ≡ None) (bus b) (λ i. absurd (is_false q (in_all (λ n. is_in n listed) b (8 ∷ 9 ∷ []) tt i)))
+    (λ _. by_cases (λ (o : Option ℕ). o ≡ None) (usage b) (λ i. absurd (is_false q (in_all (λ n. is_in n listed) b (16 ∷ 17 ∷ 18 ∷ 19 ∷ 24 ∷ 25 ∷ []) tt i)))
     (λ _. refl)))
 
 -- ---- what ED04 reads
@@ -98,7 +97,7 @@ module _ (m : Model) (h : Sound chip_m0 m) where
   raised_hard n s q = rw q
 
   -- the fault of a bit that names exception n, which is not enabled
-  hard : (n b a : ℕ) → enabled_at m n ≡ false → is_negative (execution m) ≡ false → fault_raised chip_m0 (execution m) m (At n) b a ≡ done 3 (pend 3 m)
+  hard : (n b a : ℕ) → enabled_at m n ≡ false → is_negative (execution m) ≡ false → fault_raised chip_m0 (execution m) m (Some n) b a ≡ done 3 (pend 3 m)
   hard n b a q free = rw free (raised_hard n (fault_status b a m.core.system) q)
 
   fault : (b a : ℕ) → T (is_in b listed) → is_negative (execution m) ≡ false → step_of chip_m0 m (event.Fault b a) ≡ done 3 (pend 3 m)
@@ -116,9 +115,9 @@ module _ (m : Model) (h : Sound chip_m0 m) where
 
   -- ---- entry
 
-  entered_at : (o : Found) → (enter m o).refusal ≡ 0 → (enter m o).vector ≡ 4 * (enter m o).value
-  entered_at Nothing q = absurd (let z : ⊥ = omega (arith, q) in z)
-  entered_at (At n) q = rw (h.core.bare tt).system.vtable (omega arith)
+  entered_at : (o : Option ℕ) → (enter m o).refusal ≡ 0 → (enter m o).vector ≡ 4 * (enter m o).value
+  entered_at None q = absurd (let z : ⊥ = omega (arith, q) in z)
+  entered_at (Some n) q = rw (h.core.bare tt).system.vtable (omega arith)
 
   vectors : (step_of chip_m0 m event.Entry).refusal ≡ 0 → (step_of chip_m0 m event.Entry).vector ≡ 4 * (step_of chip_m0 m event.Entry).value
   unfolding entry_at
@@ -151,7 +150,7 @@ e10 =
       sound = λ m h. record {
         fault = fault m h;
         locked = locked m h;
-        unlisted = λ b a q. step_sound tt h (event.Fault b a) ∙ ap (λ (o : Found). fault_raised chip_m0 (execution m) m o b a) (unlisted_none b q);
+        unlisted = λ b a q. step_sound tt h (event.Fault b a) ∙ ap (λ (o : Option ℕ). fault_raised chip_m0 (execution m) m o b a) (unlisted_none b q);
         privilege = always m h;
         grouping = group_is_full m h;
         four = rw (h.core.bare tt).group;

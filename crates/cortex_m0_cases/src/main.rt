@@ -2,11 +2,11 @@
 // documents 01 and 02.
 #![tactic(auto)]
 
-mod calls;
+mod called;
 mod handed;
 mod show;
 
-fn main() {
-    calls::run();
-    handed::run();
+fn main(rt: HostRuntime) -> std::io::Result<()> {
+    called::run(&rt)?;
+    handed::run(&rt)
 }

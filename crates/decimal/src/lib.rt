@@ -33,6 +33,7 @@ pub fn put_decimal(out: &mut [u8], at: usize, n: u32) -> usize
     let next = at + places(n);
     let mut last = next - 1;
     let mut rest = n;
+    // A while: what ends it is `rest`, which no index or list gives.
     while rest >= 10 {
         out[last] = (48 + rest % 10) as u8;
         rest /= 10;
@@ -104,12 +105,9 @@ fn put_text(out: &mut [u8], at: usize, text: &[u8]) -> usize
     requires { at + length text.now ≤ length out.old }
     ensures { Puts at text.now out.old result out.new }
 {
-    let mut i = 0;
-    while i < text.len() {
-        out[at + i] = text[i];
-        i += 1;
-    }
-    at + i
+    let end = at + text.len();
+    out[at..end].copy_from_slice(text);
+    end
 }
 
 // The line that ends a broken script.

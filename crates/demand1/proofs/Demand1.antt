@@ -7,8 +7,7 @@ use mathlib.Core.Bool.{Bool, true, false, not, cond, ◌&&◌, ◌||◌}
 use native.Mathlib.Omega.{arith}
 use lib.Dec.{T, ltb, leb, eqb, T_not}
 use lib.IntN.{ℤ}
-use Rattle.priority.specs.declared.Found.{Found}
-use Rattle.priority.specs.declared.Found.TheVariants.{At, Nothing}
+use Rattle.std.specs.Prelude.{Option, Some, None}
 use Rattle.bools.specs.Tests.{is_false, either, or_right, by_cases}
 use Rattle.script.specs.declared.AccessKind.{AccessKind}
 use Rattle.script.specs.declared.Event.{Event}
@@ -114,9 +113,9 @@ module _ (c : Chip) (m : Model) where
   unfolding fault_at
   fault_fine b a = go (fault_exception b)
     where
-      go : (o : Found) → Fine (event.Fault b a) (fault_raised c (execution m) m o b a)
-      go Nothing = inr (record { number = tt; nothing = refl })
-      go (At n) =
+      go : (o : Option ℕ) → Fine (event.Fault b a) (fault_raised c (execution m) m o b a)
+      go None = inr (record { number = tt; nothing = refl })
+      go (Some n) =
           by_cases (Fine (event.Fault b a)) (is_negative (execution m)) (λ _. inr (record { number = tt; nothing = refl }))
           (λ _. raised_fine (event.Fault b a) (execution m) n (fault_status b a m.core.system))
 
@@ -136,9 +135,9 @@ module _ (c : Chip) (m : Model) where
   unfolding entry_at
   entry_fine = go (chosen m)
     where
-      go : (o : Found) → Fine event.Entry (enter m o)
-      go Nothing = inr (record { number = tt; nothing = refl })
-      go (At n) = inl refl
+      go : (o : Option ℕ) → Fine event.Entry (enter m o)
+      go None = inr (record { number = tt; nothing = refl })
+      go (Some n) = inl refl
 
   return_fine : (v : ℕ) → Fine (event.Return v) (return_call m v)
   unfolding return_call

@@ -4,38 +4,40 @@ use mathlib.Core.Path.{◌≡◌, refl}
 use mathlib.Core.Logic.{◌⊎◌, inl, inr}
 use mathlib.Core.List.{List, [], ◌∷◌}
 use mathlib.Core.Bool.{Bool, true, false, not, cond}
+use native.Mathlib.Omega.{arith}
 use lib.ListN.{length, get_or}
 use lib.Seq.{sets}
-use lib.Dec.{T, ltb, eqb, eqb→eq, T_not}
+use lib.Dec.{T, ltb, eqb, eqb→eq}
 use Rattle.bools.specs.Tests.{by_cases, either}
-use Rattle.numbers.specs.declared.Number.{Number}
-use Rattle.numbers.specs.declared.Number.TheVariants.{Value, Bad}
+use Rattle.std.specs.Prelude.{Option, Some, None, Result, Ok, Err}
+use Rattle.refusals.specs.declared.Refusal.{Refusal}
+use Rattle.refusals.specs.declared.Refusal.TheVariants as refusal
+use Rattle.refusals.specs.Refusals.{number_of}
 use Rattle.numbers.specs.Number.{number_at}
 use Rattle.script.specs.declared.Event.{Event}
-use Rattle.script.specs.declared.ReadEvent.{ReadEvent}
-use Rattle.script.specs.declared.ReadEvent.TheVariants.{Found, Refused}
-use Rattle.script.specs.declared.Written.TheVariants as written
 use Rattle.script.specs.Event.{arity}
 use Rattle.script.specs.Answers.{read_answer, written_answer}
 use Rattle.script.specs.Reading.{Numbers, numbers, broken, numbers_at, event_of, with_arguments, with_kind, read_event}
 use Rattle.script.specs.Writing.{event_bytes, fits, write_event, bytes_after}
 use Rattle.frame.specs.declared.Words.{Words}
-use Rattle.frame.specs.Frame.{window_fits, stack_fits, refusal_of, stack_refusal, stacked, stacked_window, unstack_fits, unstack_refusal, unstacked}
+use Rattle.frame.specs.declared.Unstacked.{Unstacked}
+use Rattle.frame.specs.Answers.{stack_answer, unstack_answer}
+use Rattle.frame.specs.Frame.{window_fits, stack_fits, refusal_of, stacked, stacked_window, unstack_fits, unstacked}
 use Rattle.frame.proofs.RoundTrip.{stack_refused}
 use Rattle.rules.specs.Chip.{is_in}
 use Rattle.demand1.specs.Demand1.{ReadRefused, WriteRefused, StackRefused, UnstackRefused, LentBytes}
 
 -- ---- scripts
 
-abbrev Read : ReadEvent → Type 0
+abbrev Read : Result (Event × ℕ) Refusal → Type 0
 Read a = T (is_in (read_answer a).refusal (0 ∷ 15 ∷ 13 ∷ 14 ∷ []))
 
-read_answer_lem : (a : ReadEvent) → Read a → ((read_answer a).refusal ≡ 0) ⊎ ReadRefused (read_answer a)
-read_answer_lem (Found e next) t = inl refl
-read_answer_lem (Refused n) t = go (either (eqb n 0) (is_in n (15 ∷ 13 ∷ 14 ∷ [])) t)
+read_answer_lem : (a : Result (Event × ℕ) Refusal) → Read a → ((read_answer a).refusal ≡ 0) ⊎ ReadRefused (read_answer a)
+read_answer_lem (Ok (e, next)) t = inl refl
+read_answer_lem (Err r) t = go (either (eqb (number_of r) 0) (is_in (number_of r) (15 ∷ 13 ∷ 14 ∷ [])) t)
   where
-    go : T (eqb n 0) ⊎ T (is_in n (15 ∷ 13 ∷ 14 ∷ [])) → (n ≡ 0) ⊎ ReadRefused (read_answer (Refused n))
-    go (inl z) = inl (eqb→eq n 0 z)
+    go : T (eqb (number_of r) 0) ⊎ T (is_in (number_of r) (15 ∷ 13 ∷ 14 ∷ [])) → (number_of r ≡ 0) ⊎ ReadRefused (read_answer (Err r))
+    go (inl z) = inl (eqb→eq (number_of r) 0 z)
     go (inr u) = inr (record { number = u; nothing = refl })
 
 event_read : (kind a b c next : ℕ) → Read (event_of kind a b c next)
@@ -60,10 +62,10 @@ unfolding with_arguments
 arguments_read kind (numbers ns next) = event_read kind (get_or ns 0 0) (get_or ns 1 0) (get_or ns 2 0) next
 arguments_read kind broken = tt
 
-kind_read : (bytes : List ℕ) (n : Number) → Read (with_kind bytes n)
+kind_read : (bytes : List ℕ) (n : Option (ℕ × ℕ)) → Read (with_kind bytes n)
 unfolding with_kind
-kind_read bytes (Value kind next) = arguments_read kind (numbers_at bytes next (arity kind))
-kind_read bytes Bad = tt
+kind_read bytes (Some (kind, next)) = arguments_read kind (numbers_at bytes next (arity kind))
+kind_read bytes None = tt
 
 reading : (bytes : List ℕ) (at : ℕ) → ((read_answer (read_event bytes at)).refusal ≡ 0) ⊎ ReadRefused (read_answer (read_event bytes at))
 unfolding read_event
@@ -74,38 +76,45 @@ writing : (out : List ℕ) (at : ℕ) (e : Event) → ((written_answer (write_ev
 unfolding write_event bytes_after
 writing out at e = go (fits out at e)
   where
-    go : (b : Bool) → ((written_answer (cond b (written.Next (at + length (event_bytes e))) (written.Refused 15))).refusal ≡ 0) ⊎ WriteRefused out (cond b (sets out at (event_bytes e)) out) (written_answer (cond b (written.Next (at + length (event_bytes e))) (written.Refused 15)))
+    go : (b : Bool) → ((written_answer (cond b (Ok (at + length (event_bytes e))) (Err refusal.Length))).refusal ≡ 0) ⊎ WriteRefused out (cond b (sets out at (event_bytes e)) out) (written_answer (cond b (Ok (at + length (event_bytes e))) (Err refusal.Length)))
     go true = inl refl
     go false = inr (record { nothing = refl; bytes = refl })
 
 -- ---- frames
 
-frame_among : (window frame : Bool) → T (not (eqb (refusal_of window frame) 0)) → T (is_in (refusal_of window frame) (12 ∷ 11 ∷ []))
+no_window : (window frame : Bool) → T (not window) → refusal_of window frame ≡ 0 → ⊥
 unfolding refusal_of
-frame_among true true t = absurd t
-frame_among true false t = tt
-frame_among false frame t = tt
+no_window true frame t e = absurd t
+no_window false frame t e = omega arith
 
-stacking : (base sp : ℕ) (window : List ℕ) (words : Words) (align : Bool) → ((stacked base (length window) sp align).refusal ≡ 0) ⊎ StackRefused window (stacked_window base window sp words align) (stacked base (length window) sp align)
+no_frame : (window frame : Bool) → T (not frame) → refusal_of window frame ≡ 0 → ⊥
+unfolding refusal_of
+no_frame true true t e = absurd t
+no_frame true false t e = omega arith
+no_frame false frame t e = omega arith
+
+abbrev Stacks : List ℕ → List ℕ → Result ℕ Refusal → Type 0
+Stacks window left a = ((stack_answer a).refusal ≡ 0) ⊎ StackRefused window left (stack_answer a)
+
+stacking : (base sp : ℕ) (window : List ℕ) (words : Words) (align : Bool) → ((stack_answer (stacked base (length window) sp align)).refusal ≡ 0) ⊎ StackRefused window (stacked_window base window sp words align) (stack_answer (stacked base (length window) sp align))
 unfolding stacked
 stacking base sp window words align =
-    let n = stack_refusal base (length window) sp align in
-    by_cases (λ a. (a.refusal ≡ 0) ⊎ StackRefused window (stacked_window base window sp words align) a) (eqb n 0) (λ _. inl refl)
-    (λ some. inr (record {
-      number = frame_among (window_fits base (length window)) (stack_fits base (length window) sp align) some;
-      nothing = refl;
-      bytes = stack_refused base sp window words align (λ z. T_not (eqb n 0) some (rw z tt));
-    }))
+    let w = window_fits base (length window) in
+    let f = stack_fits base (length window) sp align in
+    by_cases (Stacks window (stacked_window base window sp words align)) w
+    (λ _. by_cases (Stacks window (stacked_window base window sp words align)) f (λ _. inl refl)
+    (λ no. inr (record { number = tt; nothing = refl; bytes = stack_refused base sp window words align (no_frame w f no) })))
+    (λ no. inr (record { number = tt; nothing = refl; bytes = stack_refused base sp window words align (no_window w f no) }))
 
-unstacking : (base sp : ℕ) (window : List ℕ) (align : Bool) → ((unstacked base window sp align).refusal ≡ 0) ⊎ UnstackRefused (unstacked base window sp align)
+abbrev Unstacks : Result Unstacked Refusal → Type 0
+Unstacks a = ((unstack_answer a).refusal ≡ 0) ⊎ UnstackRefused (unstack_answer a)
+
+unstacking : (base sp : ℕ) (window : List ℕ) (align : Bool) → ((unstack_answer (unstacked base window sp align)).refusal ≡ 0) ⊎ UnstackRefused (unstack_answer (unstacked base window sp align))
 unfolding unstacked
 unstacking base sp window align =
-    let n = unstack_refusal base (length window) sp in
-    by_cases (λ a. (a.refusal ≡ 0) ⊎ UnstackRefused a) (eqb n 0) (λ _. inl refl)
-    (λ some. inr (record {
-      number = frame_among (window_fits base (length window)) (unstack_fits base (length window) sp) some;
-      nothing = refl;
-    }))
+    by_cases Unstacks (window_fits base (length window))
+    (λ _. by_cases Unstacks (unstack_fits base (length window) sp) (λ _. inl refl) (λ _. inr (record { number = tt; nothing = refl })))
+    (λ _. inr (record { number = tt; nothing = refl }))
 
 pub lent_bytes : LentBytes
 lent_bytes = record { reading = reading; writing = writing; stacking = stacking; unstacking = unstacking }

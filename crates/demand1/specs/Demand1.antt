@@ -7,8 +7,7 @@ use Rattle.script.specs.Answers.{ReadAnswer, read_answer, WrittenAnswer, written
 use Rattle.script.specs.Reading.{read_event}
 use Rattle.script.specs.Writing.{write_event, bytes_after}
 use Rattle.frame.specs.declared.Words.{Words}
-use Rattle.frame.specs.declared.Stacked.{Stacked}
-use Rattle.frame.specs.declared.Unstacked.{Unstacked}
+use Rattle.frame.specs.Answers.{StackAnswer, stack_answer, UnstackAnswer, unstack_answer}
 use Rattle.frame.specs.Frame.{stacked, stacked_window, unstacked, no_words}
 use Rattle.rules.specs.declared.Chip.{Chip}
 use Rattle.rules.specs.Chip.{is_armv6m, is_in, fits}
@@ -77,18 +76,18 @@ pub record WriteRefused (out left : List ℕ) (a : WrittenAnswer) : Type 0 where
   pub bytes : left ≡ out
 
 -- "12: window over 65,536 bytes, base no multiple of 4, or end past 2^32", "11: SP no multiple of 4, or frame below 0 or not wholly in the window"
-pub record StackRefused (window left : List ℕ) (a : Stacked) : Type 0 where
+pub record StackRefused (window left : List ℕ) (a : StackAnswer) : Type 0 where
   pub number : T (is_in a.refusal (12 ∷ 11 ∷ []))
   pub nothing : a ≡ record { refusal = a.refusal; frame = 0 }
   pub bytes : left ≡ window
 
 -- "11: .. or restored SP past 32 bits"; unstacking changes no byte
-pub record UnstackRefused (a : Unstacked) : Type 0 where
+pub record UnstackRefused (a : UnstackAnswer) : Type 0 where
   pub number : T (is_in a.refusal (12 ∷ 11 ∷ []))
   pub nothing : a ≡ record { refusal = a.refusal; sp = 0; words = no_words }
 
 pub record LentBytes : Type 0 where
   pub reading : (bytes : List ℕ) (at : ℕ) → ((read_answer (read_event bytes at)).refusal ≡ 0) ⊎ ReadRefused (read_answer (read_event bytes at))
   pub writing : (out : List ℕ) (at : ℕ) (e : Event) → ((written_answer (write_event out at e)).refusal ≡ 0) ⊎ WriteRefused out (bytes_after out at e) (written_answer (write_event out at e))
-  pub stacking : (base sp : ℕ) (window : List ℕ) (words : Words) (align : Bool) → ((stacked base (length window) sp align).refusal ≡ 0) ⊎ StackRefused window (stacked_window base window sp words align) (stacked base (length window) sp align)
-  pub unstacking : (base sp : ℕ) (window : List ℕ) (align : Bool) → ((unstacked base window sp align).refusal ≡ 0) ⊎ UnstackRefused (unstacked base window sp align)
+  pub stacking : (base sp : ℕ) (window : List ℕ) (words : Words) (align : Bool) → ((stack_answer (stacked base (length window) sp align)).refusal ≡ 0) ⊎ StackRefused window (stacked_window base window sp words align) (stack_answer (stacked base (length window) sp align))
+  pub unstacking : (base sp : ℕ) (window : List ℕ) (align : Bool) → ((unstack_answer (unstacked base window sp align)).refusal ≡ 0) ⊎ UnstackRefused (unstack_answer (unstacked base window sp align))

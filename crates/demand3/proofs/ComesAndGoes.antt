@@ -14,8 +14,7 @@ use borrow.Author.Tests.{lt-ltb, ne_eqb}
 use Rattle.bools.specs.Tests.{false_is, and_needed, by_cases}
 use Rattle.flag_words.specs.Flags.{on}
 use Rattle.grouping.specs.Grouping.{grouped, group_priority}
-use Rattle.priority.specs.declared.Found.{Found}
-use Rattle.priority.specs.declared.Found.TheVariants.{At, Nothing}
+use Rattle.std.specs.Prelude.{Option, Some, None}
 use Rattle.priority.specs.Laws.{execution_least, by_faultmask}
 use Rattle.script.specs.declared.Event.{Event}
 use Rattle.script.specs.declared.Event.TheVariants.{Entry, Return}
@@ -95,10 +94,10 @@ module _ {c : Chip} {m : Model} (h : Sound c m) (n : ℕ) (pends : T (on m.pendi
 
 -- ---- what entry answers, and the return on what it left
 
-came : {c : Chip} {m : Model} → T (fits c) → Sound c m → (o : Found) → chosen m ≡ o → (enter m o).refusal ≡ 0
+came : {c : Chip} {m : Model} → T (fits c) → Sound c m → (o : Option ℕ) → chosen m ≡ o → (enter m o).refusal ≡ 0
     → step_of c (enter m o).next (Return (enter m o).link) ≡ done (top (stack m)) (came_and_went (enter m o).value m)
-came f h Nothing e accepted = absurd (omega arith)
-came {m = m} f h (At n) e accepted =
+came f h None e accepted = absurd (omega arith)
+came {m = m} f h (Some n) e accepted =
     let a = chosen_able h n e in
     step_sound f (sound_entered h n a.pends a.below) (Return (link_of m.core)) ∙ return_back h n a.pends a.below
 

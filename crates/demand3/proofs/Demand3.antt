@@ -6,8 +6,7 @@ use mathlib.Core.Bool.{Bool, true, false}
 use native.Mathlib.Omega.{arith}
 use lib.ListN.{length}
 use lib.Dec.{T}
-use Rattle.priority.specs.declared.Found.{Found}
-use Rattle.priority.specs.declared.Found.TheVariants.{At, Nothing}
+use Rattle.std.specs.Prelude.{Option, Some, None}
 use Rattle.priority.specs.Order.{Distinct, Rising}
 use Rattle.priority.specs.Laws as laws
 use Rattle.priority.proofs.Levels.{rising_few}
@@ -108,10 +107,10 @@ module _ (m : Model) where
   eligible : (n : ℕ) → Able n → Eligible m n
   eligible n a = record { pending = a.pends; enabled = a.enables; below = a.below }
 
-  enter_entering : (o : Found) → chosen m ≡ o → Entering m (enter m o)
-  enter_entering Nothing e =
+  enter_entering : (o : Option ℕ) → chosen m ≡ o → Entering m (enter m o)
+  enter_entering None e =
       record { refused = (λ _ n x. (laws.pending_nothing m.core.group m.priority m.pending m.enabled (execution m)).0 e n (able n x), λ _. refl); taken = λ x. absurd (x refl) }
-  enter_entering (At n) e =
+  enter_entering (Some n) e =
       record { refused = (λ q. absurd (apart q), λ f. absurd (f n best.eligible)); taken = λ _. (n, best, refl) }
     where
       best : Best m n
@@ -119,7 +118,7 @@ module _ (m : Model) where
           let b = laws.pending_best m.core.group m.priority m.pending m.enabled (execution m) n e in
           record { eligible = eligible n b.able; first = λ k x ne. b.first k (able k x) ne }
 
-      apart : enter m (At n) ≡ refuse 8 m → ⊥
+      apart : enter m (Some n) ≡ refuse 8 m → ⊥
       apart q = let z : ◌≡◌ {A = ℕ} 0 8 = ap (λ (a : Answer). a.refusal) q in omega arith
 
 pub entries : (c : Chip) → T (fits c) → (m : Model) → Sound c m → Entering m (step_of c m event.Entry)

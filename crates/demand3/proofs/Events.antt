@@ -10,7 +10,7 @@ use Rattle.flag_words.specs.Flags.{on}
 use Rattle.bits.specs.Words.{bit_at, with_bit}
 use Rattle.grouping.specs.Grouping.{kept_byte}
 use Rattle.bools.specs.Tests.{true_is, both, join, or_right, not_or_left, by_cases}
-use Rattle.priority.specs.declared.Found.TheVariants.{At}
+use Rattle.std.specs.Prelude.{Some}
 use Rattle.systick.specs.declared.Ticked.{Ticked}
 use Rattle.systick.specs.Timer.{tick_of, SoundTimer}
 use Rattle.systick.specs.Laws.{tick_sound}
@@ -155,7 +155,7 @@ module _ {c : Chip} {m : Model} (h : Sound c m) where
       (λ _. by_cases (λ o. Leaves (fault_raised c (execution m) m o b address)) (is_in b (16 ∷ 17 ∷ 18 ∷ 19 ∷ 24 ∷ 25 ∷ [])) (λ t. raise 6 (enabled_exists 6) (in_all (inside faultstat_fields) b (16 ∷ 17 ∷ 18 ∷ 19 ∷ 24 ∷ 25 ∷ []) tt t))
       (λ _. stay h)))
     where
-      raise : (n : ℕ) → (T (enabled_at m n) → T (exists c n)) → T (inside faultstat_fields b) → Leaves (fault_raised c (execution m) m (At n) b address)
+      raise : (n : ℕ) → (T (enabled_at m n) → T (exists c n)) → T (inside faultstat_fields b) → Leaves (fault_raised c (execution m) m (Some n) b address)
       raise n e t = by_cases Leaves (is_negative (execution m)) (λ _. stay h) (λ _. raised_quiet n (fault_status b address m.core.system) e (status_sound b address t h.core.system))
 
   pub svc_quiet : Quiet c m (svc_call c m).next

@@ -10,7 +10,7 @@ use lib.ListN.{get_or, set}
 use lib.Dec.{T, eqb}
 use lib.Signed.{◌≤ℤ◌, ◌<ℤ◌, <ℤ-≤ℤ_trans, clash_ℤ}
 use Rattle.flag_words.specs.Flags.{on}
-use Rattle.priority.specs.declared.Found.TheVariants.{At}
+use Rattle.std.specs.Prelude.{Some}
 use Rattle.grouping.specs.Grouping.{kept_byte}
 use Rattle.priority.specs.Priority.{execution_nested}
 use Rattle.bools.specs.Tests.{and_false_of, by_cases}
@@ -98,11 +98,11 @@ module _ {c : Chip} {m : Model} (h : Sound c m) where
 
   -- ---- the one chosen
 
-  pub chosen_able : (n : ℕ) → chosen m ≡ At n → Eligible m.core.group m.priority m.pending m.enabled (execution m) n
+  pub chosen_able : (n : ℕ) → chosen m ≡ Some n → Eligible m.core.group m.priority m.pending m.enabled (execution m) n
   chosen_able n e = (pending_best m.core.group m.priority m.pending m.enabled (execution m) n e).able
 
   -- what the code needs to store it
-  pub chosen_below : (n : ℕ) → chosen m ≡ At n → (n < flag_count c) × (m.core.depth < exception_count c)
+  pub chosen_below : (n : ℕ) → chosen m ≡ Some n → (n < flag_count c) × (m.core.depth < exception_count c)
   chosen_below n e =
       let a = chosen_able n e in
       (stands_below c n Exception (pending_exists n a.pends a.below), room n a.pends a.below)

@@ -6,8 +6,7 @@ use mathlib.Core.Bool.{false, not}
 use native.Mathlib.Omega.{arith}
 use lib.Dec.{ltb, leb, eqb}
 use Rattle.bits.specs.Words.{kept}
-use Rattle.priority.specs.declared.Found.{Found}
-use Rattle.priority.specs.declared.Found.TheVariants.{At, Nothing}
+use Rattle.std.specs.Prelude.{Option, Some, None}
 use Rattle.bools.specs.Tests.{is_true, true_is, by_cases}
 use Rattle.priority.specs.Order.{Rising}
 use Rattle.script.specs.Event.{access_number}
@@ -60,9 +59,9 @@ module _ {c : Chip} {m : Model} (h : Sound c m) where
       (λ _. by_cases (λ (x : Answer). Quiet c m x.next) (not (fits_access k w)) (λ _. stay h)
       (λ _. by_cases (λ (x : Answer). Quiet c m x.next) (not (eqb (a % w) 0)) (λ _. stay h) (λ _. stay h))))
 
-  enter_ok : (o : Found) → chosen m ≡ o → Step c m event.Entry (enter m o)
-  enter_ok Nothing e = quiet event.Entry refl (stay h)
-  enter_ok (At n) e =
+  enter_ok : (o : Option ℕ) → chosen m ≡ o → Step c m event.Entry (enter m o)
+  enter_ok None e = quiet event.Entry refl (stay h)
+  enter_ok (Some n) e =
       let a = chosen_able h n e in
       record { sound = sound_entered h n a.pends a.below; recorded = sym (stack_entered h n a.pends a.below); rising = λ _ r. rising_entered h n a.pends a.below r }
 

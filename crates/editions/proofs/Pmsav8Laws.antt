@@ -1,7 +1,7 @@
 -- Laws of PMSAv8: which addresses a region covers, what its rights are, and who decides. Two regions over an address fault, one decides, where
 -- there is none the background does; and the order of the regions is of no account.
 use Prim.Native.Nat.{ℕ, zero, suc, ◌*◌, ◌/◌, ◌%◌, ◌^◌, ◌<◌}
-use Rattle.std.specs.Prelude.{◌≡◌, ◌⊎◌, List, map, Bool, get_or, T, eqb, leb}
+use Rattle.std.specs.Prelude.{◌≡◌, ◌⊎◌, List, map, Bool, get_or, T, eqb}
 use Rattle.std.proofs.Math.Path.{refl, ap}
 use Rattle.std.proofs.Common.{sym, subst, ◌∙◌, eq-or-lt_of_le, le_of_suc-le-suc, eqb→eq, leb→le, le→leb}
 use Rattle.std.proofs.Math.Logic.{⊎_elim}

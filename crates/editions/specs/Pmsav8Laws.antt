@@ -1,11 +1,11 @@
 -- Laws of PMSAv8: which addresses a region covers, what its rights are, and who decides. Two regions over an address fault, one decides, where
 -- there is none the background does; and the order of the regions is of no account.
 use Prim.Native.Nat.{ℕ, ◌+◌, ◌*◌, ◌<◌, ◌≤◌}
-use Rattle.std.specs.Prelude.{◌≡◌, ◌≢◌, List, [], ◌∷◌, map, Bool, get_or, T}
+use Rattle.std.specs.Prelude.{◌≡◌, ◌≢◌, List, [], ◌∷◌, Bool, get_or, T}
 use Rattle.std.proofs.Math.Bool.{true, false}
 use Rattle.mpu.specs.declared.Mpu.{Mpu}
 use Rattle.verdicts.specs.declared.Rights.{Rights}
-use Rattle.editions.specs.Pmsav8.{Cover, Nowhere, Once, Twice, block_of, is_enabled, rights_in, covers_at, tally}
+use Rattle.editions.specs.Pmsav8.{Cover, Nowhere, Once, Twice, block_of, is_enabled, rights_in, covers_at}
 use Rattle.verdicts.specs.Rights.{NONE, R, RW}
 
 -- ---- coverage: the addresses from 32 x first block to 32 x last block + 31, and no others

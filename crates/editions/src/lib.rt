@@ -2,77 +2,50 @@
 #![tactic(auto)]
 
 ghost use Rattle.std.specs.Prelude.{◌≡◌};
+ghost use Rattle.verdicts.specs.Numbers.{number_of};
 ghost use Rattle.editions.specs.Editions.{guard_allows, guard_permits, guard_verdict};
 
 use mpu::{Edition, Mpu};
 use pmsav8::covers_allow;
-use verdicts::Access;
 use verdicts::regions::{
     background, default_allows, default_decides, fault_of, regions_allow, system_fetch,
 };
+use verdicts::{Request, Verdict};
 
 mod pmsav8;
 
 // What the regions allow, and the background where none decides.
-fn guard_allows(
-    edition: Edition,
-    guard: Mpu,
-    access: Access,
-    address: u32,
-    privileged: bool,
-) -> bool
-    ensures { result ≡ guard_allows edition guard access address privileged }
+#[tactic(auto, unfolding(crate::specs::Editions::guard_allows))]
+fn guard_allows(edition: Edition, guard: Mpu, request: Request) -> bool
+    ensures { result ≡ guard_allows edition guard request.access request.address request.privileged }
 {
-    let bases = guard.bases;
-    let attributes = guard.attributes;
-    let otherwise = background(guard.control, access, address, privileged);
+    let otherwise = background(guard.control, request);
     match edition {
-        Edition::Pmsav7 => {
-            regions_allow(&bases, &attributes, access, address, privileged, otherwise)
-        }
-        Edition::Pmsav8 => covers_allow(
-            &bases,
-            &attributes,
-            access,
-            address,
-            privileged,
-            otherwise,
-        ),
+        Edition::Pmsav7 => regions_allow(&guard.bases, &guard.attributes, request, otherwise),
+        Edition::Pmsav8 => covers_allow(&guard.bases, &guard.attributes, request, otherwise),
     }
 }
 
-fn permits(
-    edition: Edition,
-    guard: Mpu,
-    access: Access,
-    address: u32,
-    privileged: bool,
-    negative: bool,
-) -> bool
-    ensures { result ≡ guard_permits edition guard access address privileged negative }
+#[tactic(auto, unfolding(crate::specs::Editions::guard_permits))]
+fn permits(edition: Edition, guard: Mpu, request: Request, negative: bool) -> bool
+    ensures { result ≡ guard_permits edition guard request.access request.address request.privileged negative }
 {
-    if system_fetch(access, address) {
+    if system_fetch(request.access, request.address) {
         return false;
     }
-    if default_decides(guard.control, address, negative) {
-        return default_allows(access, address);
+    if default_decides(guard.control, request.address, negative) {
+        return default_allows(request.access, request.address);
     }
-    guard_allows(edition, guard, access, address, privileged)
+    guard_allows(edition, guard, request)
 }
 
-// 0 allowed, 1 data fault, 2 fetch fault; `negative` is whether the execution priority is below 0.
-pub fn verdict(
-    edition: Edition,
-    guard: Mpu,
-    access: Access,
-    address: u32,
-    privileged: bool,
-    negative: bool,
-) -> u32
-    ensures { result ≡ guard_verdict edition guard access address privileged negative }
+// `negative` is whether the execution priority is below 0.
+#[tactic(auto, unfolding(crate::specs::Editions::guard_verdict))]
+pub fn verdict(edition: Edition, guard: Mpu, request: Request, negative: bool) -> Verdict
+    ensures { number_of result ≡ guard_verdict edition guard request.access request.address request.privileged negative }
 {
-    if permits(edition, guard, access, address, privileged, negative) {
-        return 0;
+    if permits(edition, guard, request, negative) {
+        return Verdict::Allowed;
     }
-    fault_of(access)
+    fault_of(request.access)
 }

@@ -1,21 +1,18 @@
 // The second example of README.md: a chip is named, and its last line is enabled, rises and is entered.
-use super::number;
 use any_chip::State;
+use calls::Calls;
 use mpu::Edition;
 use rules::{Part, Setup};
+use std::io::Result;
 
-pub fn run() {
+pub fn run(rt: &impl Print) -> Result<()> {
     let s = State::fresh(Setup {
         part: Part::Lines240,
         bits: 3,
         guard: Edition::Pmsav7,
     });
-    let enabled = s.write(4, 0xe000e11c, 0x8000);
-    let s = enabled.state;
-    let risen = s.line(239, 1);
-    let s = risen.state;
+    let s = s.write(4, 0xe000e11c, 0x8000).state;
+    let s = s.line(239, 1).state;
     let entered = s.entry();
-    number(entered.value);
-    number(entered.vector);
-    number(entered.link);
+    println!(rt; "{}\n{}\n{}", entered.value, entered.vector, entered.link)
 }

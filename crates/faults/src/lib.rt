@@ -1,26 +1,24 @@
-// Faults and SVC on lent lists, for every chip. `limit` is the execution priority.
+// Faults and SVC on a lent state, for every chip. `limit` is the execution priority.
 #![tactic(auto)]
 
-ghost use Rattle.std.specs.Prelude.{◌≡◌, not, ◌&&◌, ◌<◌};
-ghost use Rattle.rules.specs.Model.{Model, with_pending, with_enabled, with_priority, with_core};
-ghost use Rattle.rules.specs.Lent.{answer};
+ghost use Rattle.std.specs.Prelude.{◌≡◌, not, ◌&&◌, ◌<◌, Some};
+ghost use Rattle.rules.specs.Lent.{SameLoan, answer, view};
 ghost use Rattle.std.specs.Int.Signed.{lt_z};
-ghost use Rattle.grouping.specs.Grouping.{group_priority};
-ghost use Rattle.priority.specs.Priority.{is_enabled};
-ghost use Rattle.priority.specs.declared.Found.TheVariants.{At};
+ghost use Rattle.rules.specs.Priorities.{enabled_at, group_number};
 ghost use Rattle.rules.specs.Events.{raised, fault_raised, fault_at, svc_at};
 
-use nvic::flags::store_flag;
-use parts::{accepted, refused};
-use priority::Found;
-use rules::{Chip, Core, Outcome, System};
+use nvic::lists::store;
+use parts::accepted;
+use refusals::Refusal;
+use rules::{Chip, Lent, Outcome, System};
 
 // Whether HardFault takes what exception n may not.
-fn escalates(enabled: &[bool], priority: &[u8], group: u32, limit: i32, n: usize) -> bool
-    ensures { result ≡ not (is_enabled enabled.now n && lt_z (group_priority group priority.now n) limit) }
+fn escalates(state: &Lent<'_>, limit: i32, n: usize) -> bool
+    ensures { result ≡ not (enabled_at (view state.now) n && lt_z (group_number (view state.now) n) limit) }
 {
-    if priority::is_enabled(enabled, n) {
-        if grouping::group_priority(priority, n, group) < limit {
+    if priority::is_enabled(state.enabled, n) {
+        let group = state.core.group;
+        if grouping::group_priority(state.priority, n, group) < limit {
             return false;
         }
     }
@@ -28,88 +26,62 @@ fn escalates(enabled: &[bool], priority: &[u8], group: u32, limit: i32, n: usize
 }
 
 // n is 4, 5, 6 or 11.
-fn raised(
-    chip: Chip,
-    pending: &mut [bool],
-    enabled: &[bool],
-    priority: &[u8],
-    mut core: Core,
-    limit: i32,
-    n: usize,
-    status: System,
-) -> Outcome
+fn raised(chip: Chip, state: &mut Lent<'_>, limit: i32, n: usize, status: System) -> Outcome
     requires { n < 16 }
-    ensures { (m : Model) → answer result (with_priority priority.now (with_enabled enabled.now (with_pending pending.new m))) ≡ raised chip limit (with_core core (with_priority priority.now (with_enabled enabled.now (with_pending pending.old m)))) n status }
+    ensures answer { answer result (view state.new) ≡ raised chip limit (view state.old) n status }
+    ensures loan { SameLoan state.old state.new }
 {
-    let system = core.system;
-    if escalates(enabled, priority, core.group, limit, n) {
-        let forced = system::status::noted(chip, system::status::forced(status), system);
-        core.system = forced;
-        store_flag(pending, 3, true);
-        return accepted(core, 3);
+    let core = state.core;
+    if escalates(state, limit, n) {
+        let forced = system::status::forced(status);
+        state.core.system = system::status::noted(chip, forced, core.system);
+        store(state.pending, 3, true);
+        return Ok(accepted(3));
     }
-    core.system = system::status::noted(chip, status, system);
-    store_flag(pending, n, true);
-    accepted(core, n as u32)
+    state.core.system = system::status::noted(chip, status, core.system);
+    store(state.pending, n, true);
+    Ok(accepted(n as u32))
 }
 
 // The fault of a bit whose exception is n.
 fn fault_at(
     chip: Chip,
-    pending: &mut [bool],
-    enabled: &[bool],
-    priority: &[u8],
-    core: Core,
+    state: &mut Lent<'_>,
     limit: i32,
     n: usize,
     bit: u32,
     address: u32,
 ) -> Outcome
     requires { (n < 16) × (bit < 32) }
-    ensures { (m : Model) → answer result (with_priority priority.now (with_enabled enabled.now (with_pending pending.new m))) ≡ fault_raised chip limit (with_core core (with_priority priority.now (with_enabled enabled.now (with_pending pending.old m)))) (At n) bit address }
+    ensures answer { answer result (view state.new) ≡ fault_raised chip limit (view state.old) (Some n) bit address }
+    ensures loan { SameLoan state.old state.new }
 {
     if limit < 0 {
-        return refused(core, 10);
+        return Err(Refusal::Lockup);
     }
-    let system = core.system;
+    let system = state.core.system;
     let status = system::status::fault_status(system, bit, address);
-    raised(chip, pending, enabled, priority, core, limit, n, status)
+    raised(chip, state, limit, n, status)
 }
 
-pub fn fault(
-    chip: Chip,
-    pending: &mut [bool],
-    enabled: &[bool],
-    priority: &[u8],
-    core: Core,
-    limit: i32,
-    bit: u32,
-    address: u32,
-) -> Outcome
-    ensures { (m : Model) → answer result (with_priority priority.now (with_enabled enabled.now (with_pending pending.new m))) ≡ fault_at chip limit (with_core core (with_priority priority.now (with_enabled enabled.now (with_pending pending.old m)))) bit address }
+pub fn fault(chip: Chip, state: &mut Lent<'_>, limit: i32, bit: u32, address: u32) -> Outcome
+    ensures answer { answer result (view state.new) ≡ fault_at chip limit (view state.old) bit address }
+    ensures loan { SameLoan state.old state.new }
 {
     let found = system::status::fault_exception(bit);
     match found {
-        Found::At(n) => fault_at(
-            chip, pending, enabled, priority, core, limit, n, bit, address,
-        ),
-        Found::Nothing => refused(core, 7),
+        Some(n) => fault_at(chip, state, limit, n, bit, address),
+        None => Err(Refusal::FaultBit),
     }
 }
 
-pub fn svc(
-    chip: Chip,
-    pending: &mut [bool],
-    enabled: &[bool],
-    priority: &[u8],
-    core: Core,
-    limit: i32,
-) -> Outcome
-    ensures { (m : Model) → answer result (with_priority priority.now (with_enabled enabled.now (with_pending pending.new m))) ≡ svc_at chip limit (with_core core (with_priority priority.now (with_enabled enabled.now (with_pending pending.old m)))) }
+pub fn svc(chip: Chip, state: &mut Lent<'_>, limit: i32) -> Outcome
+    ensures answer { answer result (view state.new) ≡ svc_at chip limit (view state.old) }
+    ensures loan { SameLoan state.old state.new }
 {
     if limit < 0 {
-        return refused(core, 10);
+        return Err(Refusal::Lockup);
     }
-    let system = core.system;
-    raised(chip, pending, enabled, priority, core, limit, 11, system)
+    let system = state.core.system;
+    raised(chip, state, limit, 11, system)
 }

@@ -1,4 +1,4 @@
--- One turn of each loop over flags.
+-- One turn of each loop over flags, and the room that it needs.
 use Prim.Native.Nat.{ℕ, zero, suc, min, ◌+◌, ◌-◌, ◌*◌, ◌/◌, ◌%◌, ◌^◌, ◌≤◌, ◌<◌}
 use mathlib.Core.Path.{◌≡◌, refl}
 use mathlib.Core.List.{List}
@@ -6,11 +6,12 @@ use mathlib.Core.Bool.{Bool, true, false}
 use native.Mathlib.Nat.{pow-succ'}
 use native.Mathlib.Omega.{arith}
 use lib.ListN.{length}
+use lib.Pow.{pow_mono}
 use lib.Dec.{eqb, leb}
 use borrow.Author.Tests.{leb-true, leb-false}
 use Rattle.bits.specs.Words.{bit}
 use Rattle.flag_words.specs.Flags.{on, word_of, put_flag, put_flags}
-use Rattle.flag_words.specs.FlagLaws.{word_past_end}
+use Rattle.flag_words.specs.FlagLaws.{word_lt, word_past_end}
 
 -- nothing is read of the 32 flags from their end, or the list's, on
 pub word_at_end : (flags : List Bool) (at : ℕ) → word_of flags (min (at + 32) (length flags)) (at + 32 - min (at + 32) (length flags)) ≡ 0
@@ -39,3 +40,9 @@ put_step v zero flags i w h n = let z : ⊥ = n (omega arith) in absurd z
 put_step v (suc k) flags i w h n =
     let e : suc k - 1 ≡ k = omega arith in
     (omega arith, (rw e (omega (arith, pow-succ' 2 k)), rw e))
+
+-- the flags after the first of 32 leave room for it
+pub rest_lt : (flags : List Bool) (at i : ℕ) → at < i → word_of flags i (at + 32 - i) < 2 ^ 31
+rest_lt flags at i h =
+    let k : at + 32 - i ≤ 31 = omega arith in
+    omega (arith, word_lt flags i (at + 32 - i), pow_mono k)

@@ -24,10 +24,8 @@ pub fn flags_word(flags: &[bool], at: usize) -> u32
     if flags.len() <= at {
         return 0;
     }
-    let mut i = end_of(flags.len(), at);
-    let mut word: u32 = 0;
-    while at < i {
-        i -= 1;
+    let mut word = 0;
+    for i in (at..end_of(flags.len(), at)).rev() {
         word = bit_of(flags[i]) + 2 * word;
     }
     word
@@ -47,11 +45,12 @@ fn put_flags(flags: &mut [bool], at: usize, word: u32, value: bool)
     ensures { flags.new ≡ put_flags value 32 flags.old at word }
 {
     let mut w = word;
-    let mut i = at;
-    while w != 0 && i < flags.len() {
+    for i in at..flags.len() {
+        if w == 0 {
+            return;
+        }
         put_flag(flags, i, w % 2 == 1, value);
         w /= 2;
-        i += 1;
     }
 }
 
@@ -72,16 +71,9 @@ pub fn any_flag(flags: &[bool], at: usize) -> bool
     ensures { result ≡ any_flag flags.now at }
 {
     let mut any = false;
-    let mut i = at;
-    while i < flags.len() {
-        any = either(any, flags[i]);
-        i += 1;
+    // No early end: so the compiler tests many flags at a time.
+    for i in at..flags.len() {
+        any |= flags[i];
     }
     any
-}
-
-fn either(a: bool, b: bool) -> bool
-    ensures { result ≡ b || a }
-{
-    if b { true } else { a }
 }

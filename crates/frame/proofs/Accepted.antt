@@ -1,8 +1,10 @@
 -- Refusals 12 and 11 in exactly their cases: a stacking or an unstacking is accepted just where each fact below holds.
-use Rattle.std.specs.Prelude.{ℕ, ◌+◌, ◌%◌, ◌^◌, ◌≡◌, refl, Bool, true, false, ◌&&◌, leb, ltb, eqb}
+use Rattle.std.specs.Prelude.{ℕ, ◌+◌, ◌%◌, ◌^◌, ◌≡◌, refl, Bool, true, false, cond, Result, Ok, Err, ◌&&◌, leb, ltb, eqb}
 use Rattle.std.proofs.Math.Bool.{and-eq-true_iff}
-use Rattle.std.proofs.Common.{arith, leb-true, ltb-true, eqb-true, le-leb, lt-ltb, eq-eqb}
-use Rattle.frame.specs.Frame.{window_fits, holds_frame, frame_at, stack_fits, refusal_of, stack_refusal, unstack_fits, unstack_refusal}
+use Rattle.std.proofs.Common.{ap, arith, leb-true, ltb-true, eqb-true, le-leb, lt-ltb, eq-eqb}
+use Rattle.refusals.specs.declared.Refusal.{Refusal}
+use Rattle.refusals.specs.declared.Refusal.TheVariants as refusal
+use Rattle.frame.specs.Frame.{window_fits, holds_frame, frame_at, stack_fits, refusal_of, checked, stack_refusal, unstack_fits, unstack_refusal}
 use Rattle.frame.specs.Accepted.{Fits, Holds, StackAccepted, UnstackAccepted}
 
 pub fits_of : (base len : ℕ) → window_fits base len ≡ true → Fits base len
@@ -33,6 +35,22 @@ both true true e = (refl, refl)
 both true false e = let z : ⊥ = omega arith in absurd z
 both false frame e = let z : ⊥ = omega arith in absurd z
 
+-- what the tests answer is what the call answers: its value where they pass, else their refusal
+abbrev Answer : {A : Type 0} → Bool → Bool → Result A Refusal → Result A Refusal
+Answer window frame x = cond window (cond frame x (Err refusal.Frame)) (Err refusal.Window)
+
+pub passed : {A : Type 0} (window frame : Bool) (x : Result A Refusal) (u : Unit {0}) → Ok u ≡ checked window frame → (refusal_of window frame ≡ 0) × (Answer window frame x ≡ x)
+unfolding refusal_of checked
+passed true true x u e = (refl, refl)
+passed true false x u e = let z : ◌≡◌ {A = ℕ} 0 1 = cc in let y : ⊥ = omega arith in absurd y
+passed false frame x u e = let z : ◌≡◌ {A = ℕ} 0 1 = cc in let y : ⊥ = omega arith in absurd y
+
+pub failed : {A : Type 0} (window frame : Bool) (x : Result A Refusal) (r : Refusal) → Err r ≡ checked window frame → (refusal_of window frame ≡ 0 → ⊥) × (Answer window frame x ≡ Err r)
+unfolding refusal_of checked
+failed true true x r e = let z : ◌≡◌ {A = ℕ} 0 1 = cc in let y : ⊥ = omega arith in absurd y
+failed true false x r e = let q : refusal.Frame ≡ r = cc in (λ z. omega arith, ap Err q)
+failed false frame x r e = let q : refusal.Window ≡ r = cc in (λ z. omega arith, ap Err q)
+
 pub stack_accepted : (base len sp : ℕ) (align : Bool) → stack_refusal base len sp align ≡ 0 → StackAccepted base len sp align
 unfolding stack_fits
 stack_accepted base len sp align e =
@@ -59,12 +77,20 @@ unstack_accepted base len sp e =
       restored = ltb-true _ _ g.1;
     }
 
+pub fits_unstack : (base len sp : ℕ) → UnstackAccepted base len sp → unstack_fits base len sp ≡ true
+unfolding unstack_fits
+fits_unstack base len sp a =
+    simp (eq-eqb (sp % 4) 0 a.sp4, of_holds base len sp a.holds, lt-ltb (sp + 32) (2 ^ 32) a.restored)
+
 pub accepted_unstack : (base len sp : ℕ) → UnstackAccepted base len sp → unstack_refusal base len sp ≡ 0
-unfolding unstack_fits refusal_of
-accepted_unstack base len sp a =
-    simp (
-      of_fits base len a.window,
-      eq-eqb (sp % 4) 0 a.sp4,
-      of_holds base len sp a.holds,
-      lt-ltb (sp + 32) (2 ^ 32) a.restored,
-    )
+unfolding refusal_of
+accepted_unstack base len sp a = simp (of_fits base len a.window, fits_unstack base len sp a)
+
+-- what the code has tested
+pub stack_tested : {base len sp : ℕ} {align window frame : Bool} {u : Unit {0}} → window ≡ window_fits base len → frame ≡ stack_fits base len sp align → Ok u ≡ checked window frame → StackAccepted base len sp align
+stack_tested {base} {len} {sp} {align} p q e =
+    stack_accepted base len sp align (passed {A = Unit {0}} (window_fits base len) (stack_fits base len sp align) (Ok tt) _ (rw (p, q) at e)).0
+
+pub unstack_tested : {base len sp : ℕ} {window frame : Bool} {u : Unit {0}} → window ≡ window_fits base len → frame ≡ unstack_fits base len sp → Ok u ≡ checked window frame → UnstackAccepted base len sp
+unstack_tested {base} {len} {sp} p q e =
+    unstack_accepted base len sp (passed {A = Unit {0}} (window_fits base len) (unstack_fits base len sp) (Ok tt) _ (rw (p, q) at e)).0

@@ -4,9 +4,9 @@ use Rattle.std.proofs.Common.{ap, ◌∙◌, arith, eq-eqb, ne_eqb, eqb-true}
 use Rattle.bits.specs.Words.{bit, bit_at, with_bit}
 use Rattle.bits.specs.WordLaws.{with_bit_same, with_bit_as_is, with_bit_lt}
 use Rattle.frame.specs.declared.Words.{Words}
-use Rattle.frame.specs.Frame.{padded, frame_at, stored_words, stack_refusal, listed, frame_bytes, written, stacked_window, restored_sp, unstack_refusal, gave_back, unstacked}
+use Rattle.frame.specs.Frame.{padded, frame_at, stored_words, stack_refusal, listed, frame_bytes, written, stacked_window, restored_sp, gave_back, unstacked}
 use Rattle.frame.specs.Accepted.{UnstackAccepted}
-use Rattle.frame.proofs.Accepted.{stack_accepted, accepted_unstack}
+use Rattle.frame.proofs.Accepted.{of_fits, stack_accepted, fits_unstack}
 use Rattle.frame.specs.FrameLaws.{Fit, words_back, length_written, written_there, written_below, written_above}
 use Rattle.frame.specs.RoundTrip.{bytes_taken}
 
@@ -71,7 +71,7 @@ unstack_there base sp window later words align small fit ok len there =
     let p = frame_place align sp a.room a.sp4 in
     let u : UnstackAccepted base (length later) (frame_at align sp) = rw len (record { window = a.window; sp4 = p.0; holds = a.holds; restored = omega (arith, p.1) }) in
     let w = words_back later (frame_at align sp - base) (stored_words align sp words) (stored_fit align sp words fit) there in
-    rw (eq-eqb (unstack_refusal base (length later) (frame_at align sp)) 0 (accepted_unstack base (length later) (frame_at align sp) u))
+    rw (of_fits base (length later) u.window, fits_unstack base (length later) (frame_at align sp) u)
     (ap (λ (v : Words). gave_back (restored_sp align (frame_at align sp) v.xpsr) v) w
     ∙ ap (λ (n : ℕ). gave_back n (stored_words align sp words)) (sp_restored align sp words.xpsr a.room))
 

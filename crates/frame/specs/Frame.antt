@@ -1,8 +1,9 @@
 -- Exception frames (document 01, Frames). A window is a base address with the bytes lent; numbers are addresses and words.
-use Rattle.std.specs.Prelude.{ℕ, ◌+◌, ◌-◌, ◌%◌, ◌^◌, List, [], ◌∷◌, ◌++◌, Bool, true, false, cond, ◌&&◌, length, get_or, take, drop, leb, ltb, eqb}
+use Rattle.std.specs.Prelude.{ℕ, ◌+◌, ◌-◌, ◌%◌, ◌^◌, List, [], ◌∷◌, ◌++◌, Bool, true, false, cond, ◌&&◌, Result, Ok, Err, length, get_or, take, drop, leb, ltb, eqb}
 use Rattle.bits.specs.Words.{bit_at, with_bit, byte_at, word_of_bytes}
+use Rattle.refusals.specs.declared.Refusal.{Refusal}
+use Rattle.refusals.specs.declared.Refusal.TheVariants as refusal
 use Rattle.frame.specs.declared.Words.{Words}
-use Rattle.frame.specs.declared.Stacked.{Stacked}
 use Rattle.frame.specs.declared.Unstacked.{Unstacked}
 
 -- "12: window over 65,536 bytes, base no multiple of 4, or end past 2^32"
@@ -43,16 +44,17 @@ stack_fits base len sp align = eqb (sp % 4) 0 && leb 32 sp && holds_frame base l
 unfoldable pub refusal_of : Bool → Bool → ℕ
 refusal_of window frame = cond window (cond frame 0 11) 12
 
+-- the same two tests with the refusal itself
+unfoldable pub checked : Bool → Bool → Result (Unit {0}) Refusal
+checked window frame = cond window (cond frame (Ok tt) (Err refusal.Frame)) (Err refusal.Window)
+
 abbrev pub stack_refusal : ℕ → ℕ → ℕ → Bool → ℕ
 stack_refusal base len sp align = refusal_of (window_fits base len) (stack_fits base len sp align)
 
 -- stacking answers the frame's address, which is the new SP: with `stacked_window` the manual's PushStack()
-unfoldable pub stacked : ℕ → ℕ → ℕ → Bool → Stacked
+unfoldable pub stacked : ℕ → ℕ → ℕ → Bool → Result ℕ Refusal
 stacked base len sp align =
-    cond
-    (eqb (stack_refusal base len sp align) 0)
-    (record { refusal = 0; frame = frame_at align sp })
-    (record { refusal = stack_refusal base len sp align; frame = 0 })
+    cond (window_fits base len) (cond (stack_fits base len sp align) (Ok (frame_at align sp)) (Err refusal.Frame)) (Err refusal.Window)
 
 -- the words in their order, as a list
 abbrev pub listed : Words → List ℕ
@@ -109,13 +111,14 @@ unstack_refusal base len sp = refusal_of (window_fits base len) (unstack_fits ba
 abbrev pub no_words : Words
 no_words = record { r0 = 0; r1 = 0; r2 = 0; r3 = 0; r12 = 0; lr = 0; pc = 0; xpsr = 0 }
 
-abbrev pub gave_back : ℕ → Words → Unstacked
-gave_back sp words = record { refusal = 0; sp = sp; words = words }
+abbrev pub gave_back : ℕ → Words → Result Unstacked Refusal
+gave_back sp words = Ok (record { sp = sp; words = words })
 
 -- unstacking answers the words as stored and the restored SP: the manual's PopStack()
-unfoldable pub unstacked : ℕ → List ℕ → ℕ → Bool → Unstacked
+unfoldable pub unstacked : ℕ → List ℕ → ℕ → Bool → Result Unstacked Refusal
 unstacked base window sp align =
-    cond
-    (eqb (unstack_refusal base (length window) sp) 0)
+    cond (window_fits base (length window))
+    (cond (unstack_fits base (length window) sp)
     (gave_back (restored_sp align sp (words_at window (sp - base)).xpsr) (words_at window (sp - base)))
-    (record { refusal = unstack_refusal base (length window) sp; sp = 0; words = no_words })
+    (Err refusal.Frame))
+    (Err refusal.Window)

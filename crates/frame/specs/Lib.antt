@@ -1,4 +1,5 @@
 pub mod Frame
 pub mod Accepted
+pub mod Answers
 pub mod FrameLaws
 pub mod RoundTrip

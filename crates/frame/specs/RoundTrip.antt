@@ -1,5 +1,5 @@
 -- What is stacked unstacks: the words, with xPSR as stacking made it, and the SP that stacking took.
-use Rattle.std.specs.Prelude.{ℕ, ◌+◌, ◌-◌, ◌*◌, Bool}
+use Rattle.std.specs.Prelude.{ℕ, ◌+◌, ◌*◌, Bool}
 use Rattle.bits.specs.Words.{bit}
 use Rattle.frame.specs.Frame.{padded}
 

@@ -3,7 +3,10 @@
 ghost use Rattle.std.specs.Prelude.{◌≡◌, ◌+◌, ◌≤◌, length};
 ghost use Rattle.std.proofs.lemmas.List.Edits.{sets};
 ghost use Rattle.bits.specs.Words.{with_bit};
-ghost use Rattle.frame.specs.Frame.{window_fits, holds_frame, padded, frame_at, stored_words, stack_fits, refusal_of, stacked, listed, word_bytes, frame_bytes, stacked_window, word_at, words_at, restored_sp, unstack_fits, no_words, unstacked};
+ghost use Rattle.frame.specs.Answers.{stack_answer, unstack_answer};
+ghost use Rattle.frame.specs.Frame.{window_fits, holds_frame, padded, frame_at, stored_words, stack_fits, checked, stacked, listed, word_bytes, frame_bytes, stacked_window, word_at, words_at, restored_sp, unstack_fits, unstacked};
+
+use refusals::Refusal;
 
 // The words of an exception frame, in the order of their addresses; pc is the return address.
 #[derive(Clone, Copy)]
@@ -18,17 +21,9 @@ pub struct Words {
     pub xpsr: u32,
 }
 
-// The refusal, or 0 and the frame's address.
-#[derive(Clone, Copy)]
-pub struct Stacked {
-    pub refusal: u32,
-    pub frame: u32,
-}
-
-// The refusal, or 0, the restored SP and the words as stored.
+// The restored SP and the words as stored.
 #[derive(Clone, Copy)]
 pub struct Unstacked {
-    pub refusal: u32,
     pub sp: u32,
     pub words: Words,
 }
@@ -87,17 +82,18 @@ fn stack_fits(base: u32, len: usize, sp: u32, align: bool) -> bool
     holds_frame(base, len, frame_at(align, sp))
 }
 
-// Document 01's refusal, or 0.
-fn refusal_of(window: bool, frame: bool) -> u32
-    ensures { result ≡ refusal_of window frame }
+// Document 01's refusals in their order.
+#[tactic(auto, unfolding(crate::specs::Frame::checked))]
+fn check(window: bool, frame: bool) -> Result<(), Refusal>
+    ensures { result ≡ checked window frame }
 {
     if !window {
-        return 12;
+        return Err(Refusal::Window);
     }
     if !frame {
-        return 11;
+        return Err(Refusal::Frame);
     }
-    0
+    Ok(())
 }
 
 fn mark_padding(xpsr: u32, padded: bool) -> u32
@@ -136,34 +132,31 @@ fn put_words(part: &mut [u8], words: &[u32; 8])
     requires { (length part.old ≡ 32) × (length words.now ≡ 8) }
     ensures { part.new ≡ frame_bytes words.now }
 {
-    let mut k: usize = 0;
-    while k < 8 {
+    for k in 0..8 {
         put_word(part, 4 * k, words[k]);
-        k += 1;
     }
 }
 
 // Writes a frame below SP into the window and answers where it is. A refusal changes no byte.
-pub fn stack(base: u32, window: &mut [u8], sp: u32, words: Words, align: bool) -> Stacked
-    ensures { (result ≡ stacked base (length window.old) sp align) × (window.new ≡ stacked_window base window.old sp words align) }
+pub fn stack(
+    base: u32,
+    window: &mut [u8],
+    sp: u32,
+    words: Words,
+    align: bool,
+) -> Result<u32, Refusal>
+    ensures value { result ≡ stacked base (length window.old) sp align }
+    ensures bytes { window.new ≡ stacked_window base window.old sp words align }
+    ensures numbers { stack_answer result ≡ stack_answer (stacked base (length window.old) sp align) }
 {
     let len = window.len();
-    let refusal = refusal_of(window_fits(base, len), stack_fits(base, len, sp, align));
-    if refusal != 0 {
-        return Stacked {
-            refusal: refusal,
-            frame: 0,
-        };
-    }
+    check(window_fits(base, len), stack_fits(base, len, sp, align))?;
     let frame = frame_at(align, sp);
     let start = (frame - base) as usize;
     let end = start + 32;
     let list = in_order(words, align, sp);
     put_words(&mut window[start..end], &list);
-    Stacked {
-        refusal: 0,
-        frame: frame,
-    }
+    Ok(frame)
 }
 
 fn unstack_fits(base: u32, len: usize, sp: u32) -> bool
@@ -216,38 +209,14 @@ fn get_words(window: &[u8], at: usize) -> Words
     }
 }
 
-fn no_words() -> Words
-    ensures { result ≡ no_words }
-{
-    Words {
-        r0: 0,
-        r1: 0,
-        r2: 0,
-        r3: 0,
-        r12: 0,
-        lr: 0,
-        pc: 0,
-        xpsr: 0,
-    }
-}
-
 // Reads the frame at SP and answers its words and the SP that its stacking took.
-pub fn unstack(base: u32, window: &[u8], sp: u32, align: bool) -> Unstacked
-    ensures { result ≡ unstacked base window.now sp align }
+pub fn unstack(base: u32, window: &[u8], sp: u32, align: bool) -> Result<Unstacked, Refusal>
+    ensures value { result ≡ unstacked base window.now sp align }
+    ensures numbers { unstack_answer result ≡ unstack_answer (unstacked base window.now sp align) }
 {
     let len = window.len();
-    let refusal = refusal_of(window_fits(base, len), unstack_fits(base, len, sp));
-    if refusal != 0 {
-        return Unstacked {
-            refusal: refusal,
-            sp: 0,
-            words: no_words(),
-        };
-    }
+    check(window_fits(base, len), unstack_fits(base, len, sp))?;
     let words = get_words(window, (sp - base) as usize);
-    Unstacked {
-        refusal: 0,
-        sp: restored_sp(align, sp, words.xpsr),
-        words: words,
-    }
+    let sp = restored_sp(align, sp, words.xpsr);
+    Ok(Unstacked { sp, words })
 }

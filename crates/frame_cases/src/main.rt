@@ -32,10 +32,18 @@ fn sample(xpsr: u32) -> Words {
 }
 
 fn stack(base: u32, window: &mut [u8], sp: u32, align: bool, xpsr: u32) {
-    let answer = frame::stack(base, window, sp, sample(xpsr), align);
-    number(answer.refusal);
-    space();
-    number(answer.frame);
+    match frame::stack(base, window, sp, sample(xpsr), align) {
+        Ok(frame) => {
+            number(0);
+            space();
+            number(frame);
+        }
+        Err(refusal) => {
+            number(refusal.into());
+            space();
+            number(0);
+        }
+    }
     end_line();
 }
 
@@ -58,12 +66,21 @@ fn words(w: Words) {
 }
 
 fn unstack(base: u32, window: &[u8], sp: u32, align: bool) {
-    let answer = frame::unstack(base, window, sp, align);
-    number(answer.refusal);
-    space();
-    number(answer.sp);
-    space();
-    words(answer.words);
+    match frame::unstack(base, window, sp, align) {
+        Ok(answer) => {
+            number(0);
+            space();
+            number(answer.sp);
+            space();
+            words(answer.words);
+        }
+        Err(refusal) => {
+            number(refusal.into());
+            for _ in 0..9 {
+                io::write_all(STDOUT_FILENO, b" 0");
+            }
+        }
+    }
     end_line();
 }
 

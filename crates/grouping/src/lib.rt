@@ -16,6 +16,7 @@ pub fn kept_byte(b: u32, w: u32) -> u8
 }
 
 // The priority b with bits p:0 cleared. APINT holds p below 8; any other is answered too.
+#[tactic(auto, using(crate::proofs::Laws::cut_whole))]
 pub fn group_of(b: u32, p: u32) -> u32
     ensures { result ≡ group_of p b }
 {
@@ -39,23 +40,18 @@ pub fn grouped(z: i32, p: u32) -> i32
 pub fn signed(b: u8) -> i32
     ensures { result ≡ pos b }
 {
-    b as i32
+    i32::from(b)
 }
 
 // NMI's -2, HardFault's -1, else the byte; 0 past the end of the bytes.
 pub fn full_priority(priority: &[u8], n: usize) -> i32
     ensures { result ≡ full_priority priority.now n }
 {
-    if n == 2 {
-        return -2;
+    match n {
+        2 => -2,
+        3 => -1,
+        _ => signed(priority.get(n).copied().unwrap_or(0)),
     }
-    if n == 3 {
-        return -1;
-    }
-    if n < priority.len() {
-        return signed(priority[n]);
-    }
-    0
 }
 
 pub fn group_priority(priority: &[u8], n: usize, p: u32) -> i32

@@ -2,13 +2,13 @@
 // out from documents 01 and 02.
 #![tactic(auto)]
 
-mod calls;
+mod called;
 mod registers;
 mod show;
 mod verdicts8;
 
-fn main() {
-    verdicts8::run();
-    registers::run();
-    calls::run();
+fn main(rt: HostRuntime) -> std::io::Result<()> {
+    verdicts8::run(&rt)?;
+    registers::run(&rt)?;
+    called::run(&rt)
 }

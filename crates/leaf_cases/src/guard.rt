@@ -1,8 +1,7 @@
 // Crates mpu and verdicts: region match, rights, the default map; then the registers.
 use super::show::{four, two};
-use editions::verdict;
 use mpu::{Edition, Mpu, MpuRegister};
-use verdicts::Access;
+use verdicts::{Access, Request};
 
 // Enabled, region 0 at 0x20000000 with these attributes.
 fn region(attributes: u32) -> Mpu {
@@ -12,13 +11,22 @@ fn region(attributes: u32) -> Mpu {
         .write(MpuRegister::Attributes, attributes)
 }
 
+fn verdict(m: Mpu, access: Access, address: u32, privileged: bool, negative: bool) -> u32 {
+    let request = Request {
+        access,
+        address,
+        privileged,
+    };
+    u32::from(editions::verdict(Edition::Pmsav7, m, request, negative))
+}
+
 // Unprivileged, at a priority that is not negative.
 fn read(m: Mpu, address: u32) -> u32 {
-    verdict(Edition::Pmsav7, m, Access::Read, address, false, false)
+    verdict(m, Access::Read, address, false, false)
 }
 
 fn fetch(m: Mpu, address: u32) -> u32 {
-    verdict(Edition::Pmsav7, m, Access::Fetch, address, false, false)
+    verdict(m, Access::Fetch, address, false, false)
 }
 
 fn matching() {
@@ -54,10 +62,10 @@ fn row(label: &[u8], attributes: u32) {
     let m = region(attributes);
     four(
         label,
-        verdict(Edition::Pmsav7, m, Access::Read, 0x20000000, true, false),
-        verdict(Edition::Pmsav7, m, Access::Write, 0x20000000, true, false),
-        verdict(Edition::Pmsav7, m, Access::Read, 0x20000000, false, false),
-        verdict(Edition::Pmsav7, m, Access::Write, 0x20000000, false, false),
+        verdict(m, Access::Read, 0x20000000, true, false),
+        verdict(m, Access::Write, 0x20000000, true, false),
+        verdict(m, Access::Read, 0x20000000, false, false),
+        verdict(m, Access::Write, 0x20000000, false, false),
     );
 }
 
@@ -107,10 +115,10 @@ fn deciding() {
     let background = off.write(MpuRegister::Control, 5);
     four(
         b"no region, read at a negative priority with ED94 = 1, 3; ED94 = 5, privileged, not",
-        verdict(Edition::Pmsav7, on, Access::Read, 0, false, true),
-        verdict(Edition::Pmsav7, hfnmi, Access::Read, 0, false, true),
-        verdict(Edition::Pmsav7, background, Access::Read, 0, true, false),
-        verdict(Edition::Pmsav7, background, Access::Read, 0, false, false),
+        verdict(on, Access::Read, 0, false, true),
+        verdict(hfnmi, Access::Read, 0, false, true),
+        verdict(background, Access::Read, 0, true, false),
+        verdict(background, Access::Read, 0, false, false),
     );
 }
 

@@ -1,7 +1,7 @@
 // Crates grouping and priority: group numbers, execution priority, the best pending exception.
 use super::show::{four, four_priorities};
 use bits::bit_of;
-use priority::{Found, execution_priority};
+use priority::execution_priority;
 
 fn groups() {
     four(
@@ -69,11 +69,8 @@ fn nested() {
 }
 
 // 0 for nothing. Exceptions are below 256.
-fn found(f: Found) -> u32 {
-    match f {
-        Found::At(n) => (n % 256) as u32,
-        Found::Nothing => 0,
-    }
+fn found(f: Option<usize>) -> u32 {
+    f.map_or(0, |n| (n % 256) as u32)
 }
 
 fn best() {

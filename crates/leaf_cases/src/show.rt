@@ -8,7 +8,7 @@ fn text(bytes: &[u8]) {
 
 fn number(n: u32) {
     text(b" ");
-    io::print_decimal(STDOUT_FILENO, n as u64);
+    io::print_decimal(STDOUT_FILENO, u64::from(n));
 }
 
 pub fn two(label: &[u8], a: u32, b: u32) {
@@ -29,17 +29,9 @@ pub fn four(label: &[u8], a: u32, b: u32, c: u32, d: u32) {
     text(b"\n");
 }
 
-// The priorities that the cases come to.
 fn priority(z: i32) {
-    match z {
-        -2 => text(b" -2"),
-        -1 => text(b" -1"),
-        0 => text(b" 0"),
-        64 => text(b" 64"),
-        96 => text(b" 96"),
-        256 => text(b" 256"),
-        _ => text(b" another"),
-    }
+    text(if z < 0 { b" -" } else { b" " });
+    io::print_decimal(STDOUT_FILENO, u64::from(z.unsigned_abs()));
 }
 
 pub fn four_priorities(label: &[u8], a: i32, b: i32, c: i32, d: i32) {

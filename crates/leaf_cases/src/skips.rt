@@ -64,29 +64,6 @@ fn large() {
     skipped(b"4294967295 from 1", timer(3, 0xffffffff, 1), 0xffffffff);
 }
 
-fn same_timer(a: Timer, b: Timer) -> bool {
-    if a.control != b.control {
-        return false;
-    }
-    if a.reload != b.reload {
-        return false;
-    }
-    if a.current != b.current {
-        return false;
-    }
-    a.count == b.count
-}
-
-fn same(a: Ticked, b: Ticked) -> bool {
-    if a.fell != b.fell {
-        return false;
-    }
-    if a.pends != b.pends {
-        return false;
-    }
-    same_timer(a.timer, b.timer)
-}
-
 // Some ticks and one more.
 fn one_more(some: Ticked) -> Ticked {
     let t = some.timer;
@@ -106,13 +83,11 @@ fn alike(t: Timer) -> u32 {
         pends: false,
     };
     let mut sum: u32 = 0;
-    let mut count: u32 = 0;
-    while count < 40 {
-        if same(t.skip(count), ticked) {
-            sum = std::num::wrapping_add_u32(sum, 1);
+    for count in 0..40 {
+        if t.skip(count) == ticked {
+            sum = sum.wrapping_add(1);
         }
         ticked = one_more(ticked);
-        count += 1;
     }
     sum
 }
@@ -130,10 +105,8 @@ fn numbered(i: u32) -> Timer {
 // The sum over all 1,344 timers.
 fn all_alike() -> u32 {
     let mut sum: u32 = 0;
-    let mut i: u32 = 0;
-    while i < 1344 {
-        sum = std::num::wrapping_add_u32(sum, alike(numbered(i)));
-        i += 1;
+    for i in 0..1344 {
+        sum = sum.wrapping_add(alike(numbered(i)));
     }
     sum
 }

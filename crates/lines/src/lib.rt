@@ -1,59 +1,60 @@
 // Lines, NMI and SysTick on lent lists, for every chip.
 #![tactic(auto)]
 
-ghost use Rattle.std.specs.Prelude.{◌≡◌};
-ghost use Rattle.rules.specs.Model.{Model, with_pending, with_level, with_lost, with_core};
-ghost use Rattle.rules.specs.Lent.{answer};
+ghost use Rattle.std.specs.Prelude.{◌≡◌, not, ◌&&◌};
+ghost use Rattle.flag_words.specs.Flags.{on};
+ghost use Rattle.rules.specs.Lent.{SameLoan, answer, view};
 ghost use Rattle.rules.specs.Events.{levelled, line_call, nmi_call};
 
-use nvic::flags::{flag_at, store_flag};
-use parts::{accepted, refused};
-use rules::{Chip, Core, Outcome};
+use bools::both;
+use nvic::flags::flag_at;
+use nvic::lists::store;
+use parts::accepted;
+use refusals::Refusal;
+use rules::{Chip, Lent, Outcome};
 
 pub mod ticks;
 
-// The line of exception n goes to a level. Only a rise makes it pending.
-fn set_level(pending: &mut [bool], level: &mut [bool], n: usize, high: bool)
-    ensures { (m : Model) → with_level level.new (with_pending pending.new m) ≡ levelled n high (with_level level.old (with_pending pending.old m)) }
+// Whether the line of exception n rises by going to a level.
+fn rises(state: &Lent<'_>, n: usize, high: bool) -> bool
+    ensures { result ≡ (high && not (on state.now.level.now n)) }
 {
-    if high {
-        if flag_at(level, n) {
-            store_flag(level, n, true);
-            return;
-        }
-        store_flag(pending, n, true);
-        store_flag(level, n, true);
+    both(high, !flag_at(state.level, n))
+}
+
+// The line of exception n goes to a level. Only a rise makes it pending.
+fn set_level(state: &mut Lent<'_>, n: usize, high: bool)
+    ensures levels { view state.new ≡ levelled n high (view state.old) }
+    ensures loan { SameLoan state.old state.new }
+{
+    if rises(state, n, high) {
+        store(state.pending, n, true);
+        store(state.level, n, true);
         return;
     }
-    store_flag(level, n, false);
+    store(state.level, n, high);
 }
 
-pub fn line(
-    chip: Chip,
-    pending: &mut [bool],
-    level: &mut [bool],
-    lost: &mut [u16],
-    core: Core,
-    line: u32,
-    to: u32,
-) -> Outcome
-    ensures { (m : Model) → answer result (with_lost lost.new (with_level level.new (with_pending pending.new m))) ≡ line_call chip (with_core core (with_lost lost.old (with_level level.old (with_pending pending.old m)))) line to }
+pub fn line(chip: Chip, state: &mut Lent<'_>, line: u32, to: u32) -> Outcome
+    ensures answer { answer result (view state.new) ≡ line_call chip (view state.old) line to }
+    ensures loan { SameLoan state.old state.new }
 {
     if chip.lines <= line {
-        return refused(core, 6);
+        return Err(Refusal::OutOfRange);
     }
     if 1 < to {
-        return refused(core, 6);
+        return Err(Refusal::OutOfRange);
     }
     let high = to == 1;
-    pulses::count(pending, level, lost, line, high);
-    set_level(pending, level, 16 + line as usize, high);
-    accepted(core, 0)
+    pulses::count(state, line, high);
+    set_level(state, 16 + line as usize, high);
+    Ok(accepted(0))
 }
 
-pub fn nmi(pending: &mut [bool], core: Core) -> Outcome
-    ensures { (m : Model) → answer result (with_pending pending.new m) ≡ nmi_call (with_core core (with_pending pending.old m)) }
+pub fn nmi(state: &mut Lent<'_>) -> Outcome
+    ensures answer { answer result (view state.new) ≡ nmi_call (view state.old) }
+    ensures loan { SameLoan state.old state.new }
 {
-    store_flag(pending, 2, true);
-    accepted(core, 0)
+    store(state.pending, 2, true);
+    Ok(accepted(0))
 }

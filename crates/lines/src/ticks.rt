@@ -1,39 +1,39 @@
 // SysTick: one tick, and many at once.
 ghost use Rattle.std.specs.Prelude.{◌≡◌};
 ghost use Rattle.bits.specs.Words.{bit};
-ghost use Rattle.rules.specs.Model.{Model, done, with_pending, with_core};
-ghost use Rattle.rules.specs.Lent.{answer};
+ghost use Rattle.rules.specs.Model.{done};
+ghost use Rattle.rules.specs.Lent.{SameLoan, answer, view};
 ghost use Rattle.rules.specs.Events.{ticked_model, tick_call, skip_call};
 
-use nvic::flags::store_flag;
+use nvic::lists::store;
 use parts::accepted;
-use rules::{Core, Outcome};
+use rules::{Lent, Outcome};
 use systick::Ticked;
 
 // The answer to ticks that the timer has made.
-fn ticked(pending: &mut [bool], mut core: Core, ticks: Ticked) -> Outcome
-    ensures { (m : Model) → answer result (with_pending pending.new m) ≡ done (bit ticks.fell) (ticked_model ticks (with_core core (with_pending pending.old m))) }
+fn ticked(state: &mut Lent<'_>, ticks: Ticked) -> Outcome
+    ensures answer { answer result (view state.new) ≡ done (bit ticks.fell) (ticked_model ticks (view state.old)) }
+    ensures loan { SameLoan state.old state.new }
 {
-    let next = ticks.timer;
-    core.timer = next;
-    let value = bits::bit_of(ticks.fell);
+    state.core.timer = ticks.timer;
     if ticks.pends {
-        store_flag(pending, 15, true);
-        return accepted(core, value);
+        store(state.pending, 15, true);
     }
-    accepted(core, value)
+    Ok(accepted(bits::bit_of(ticks.fell)))
 }
 
-pub fn tick(pending: &mut [bool], core: Core) -> Outcome
-    ensures { (m : Model) → answer result (with_pending pending.new m) ≡ tick_call (with_core core (with_pending pending.old m)) }
+pub fn tick(state: &mut Lent<'_>) -> Outcome
+    ensures answer { answer result (view state.new) ≡ tick_call (view state.old) }
+    ensures loan { SameLoan state.old state.new }
 {
-    let timer = core.timer;
-    ticked(pending, core, timer.tick())
+    let timer = state.core.timer;
+    ticked(state, timer.tick())
 }
 
-pub fn skip(pending: &mut [bool], core: Core, count: u32) -> Outcome
-    ensures { (m : Model) → answer result (with_pending pending.new m) ≡ skip_call (with_core core (with_pending pending.old m)) count }
+pub fn skip(state: &mut Lent<'_>, count: u32) -> Outcome
+    ensures answer { answer result (view state.new) ≡ skip_call (view state.old) count }
+    ensures loan { SameLoan state.old state.new }
 {
-    let timer = core.timer;
-    ticked(pending, core, timer.skip(count))
+    let timer = state.core.timer;
+    ticked(state, timer.skip(count))
 }

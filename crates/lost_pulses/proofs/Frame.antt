@@ -10,8 +10,7 @@ use lib.IntN.{ℤ}
 use Rattle.bits.specs.Words.{bit}
 use Rattle.bools.specs.Tests.{by_cases}
 use Rattle.flag_words.specs.Flags.{on}
-use Rattle.priority.specs.declared.Found.{Found}
-use Rattle.priority.specs.declared.Found.TheVariants.{At, Nothing}
+use Rattle.std.specs.Prelude.{Option, Some, None}
 use Rattle.systick.specs.declared.Ticked.{Ticked}
 use Rattle.systick.specs.Timer.{tick_of}
 use Rattle.systick.specs.Skip.{skip_of}
@@ -115,14 +114,14 @@ module _ (c : Chip) (m : Model) where
   unfolding fault_at
   fault_levels e b a = go (fault_exception b)
     where
-      go : (o : Found) → Leaves (fault_raised c e m o b a)
-      go Nothing = refl
-      go (At n) = by_cases Leaves (is_negative e) (λ _. refl) (λ _. raised_levels e n (fault_status b a m.core.system))
+      go : (o : Option ℕ) → Leaves (fault_raised c e m o b a)
+      go None = refl
+      go (Some n) = by_cases Leaves (is_negative e) (λ _. refl) (λ _. raised_levels e n (fault_status b a m.core.system))
 
-  enter_levels : (o : Found) → Leaves (enter m o)
+  enter_levels : (o : Option ℕ) → Leaves (enter m o)
   unfolding entered
-  enter_levels Nothing = refl
-  enter_levels (At n) = refl
+  enter_levels None = refl
+  enter_levels (Some n) = refl
 
   ticked_levels : (t : Ticked) → Level (ticked_model t m)
   ticked_levels t = by_cases Level t.pends (λ _. refl) (λ _. refl)
@@ -263,14 +262,14 @@ module _ (c : Chip) (m : Model) (x : List ℕ) where
   unfolding fault_at
   fault_frame e b a = go (fault_exception b)
     where
-      go : (o : Found) → fault_raised c e (with_lost x m) o b a ≡ counting x (fault_raised c e m o b a)
-      go Nothing = refl
-      go (At n) = choice (is_negative e) _ _ refl (raised_frame e n _)
+      go : (o : Option ℕ) → fault_raised c e (with_lost x m) o b a ≡ counting x (fault_raised c e m o b a)
+      go None = refl
+      go (Some n) = choice (is_negative e) _ _ refl (raised_frame e n _)
 
-  enter_frame : (o : Found) → enter (with_lost x m) o ≡ counting x (enter m o)
+  enter_frame : (o : Option ℕ) → enter (with_lost x m) o ≡ counting x (enter m o)
   unfolding entered
-  enter_frame Nothing = refl
-  enter_frame (At n) = refl
+  enter_frame None = refl
+  enter_frame (Some n) = refl
 
   returned_frame : (v : ℕ) → returned v (with_lost x m) ≡ with_lost x (returned v m)
   unfolding returned repended

@@ -1,8 +1,10 @@
 // The checks of a register access: width, alignment, privilege; and the byte of a word. Access verdicts share the first two.
 ghost use Rattle.std.specs.Prelude.{◌≡◌, ◌%◌, eqb};
 ghost use Rattle.rules.specs.Registers.{is_width, access_refusal, lane_of};
+ghost use Rattle.map.specs.Checks.{refusal_number};
 
 use super::width_refusal;
+use refusals::Refusal;
 use rules::{Chip, Register};
 
 pub fn is_width(w: u32) -> bool
@@ -25,20 +27,26 @@ pub fn is_aligned(a: u32, w: u32) -> bool
     a % w == 0
 }
 
-// 0 where the access is let through; `allowed` says that its privilege suffices.
-pub fn access_refusal(chip: Chip, register: Register, allowed: bool, w: u32, a: u32) -> u32
-    ensures { result ≡ access_refusal chip register allowed w a }
+// `allowed` says that the privilege of the access suffices.
+pub fn access_refusal(
+    chip: Chip,
+    register: Register,
+    allowed: bool,
+    w: u32,
+    a: u32,
+) -> Result<(), Refusal>
+    ensures { refusal_number result ≡ access_refusal chip register allowed w a }
 {
-    if is_width(w) {
-        if is_aligned(a, w) {
-            if allowed {
-                return width_refusal(chip, register, w);
-            }
-            return 3;
-        }
-        return 2;
+    if !is_width(w) {
+        return Err(Refusal::Width);
     }
-    1
+    if !is_aligned(a, w) {
+        return Err(Refusal::Unaligned);
+    }
+    if !allowed {
+        return Err(Refusal::Unprivileged);
+    }
+    width_refusal(chip, register, w)
 }
 
 // What an access of the width w at a answers of the word x.

@@ -7,11 +7,13 @@ ghost use Rattle.rules.specs.declared.Register.TheVariants.{Flags, Priority};
 ghost use Rattle.rules.specs.Blocks.{flag_words, byte_words, in_block, first_flag, bank_register};
 ghost use Rattle.rules.specs.Map.{guard_register, block_register, register_at, register_of, width_refusal};
 ghost use Rattle.rules.specs.Chip.{is_armv6m};
+ghost use Rattle.map.specs.Checks.{refusal_number};
 
 mod armv6m;
 pub mod checks;
 
 use mpu::MpuRegister;
+use refusals::Refusal;
 use rules::{Bank, Chip, Register, SystemRegister, TimerRegister};
 
 fn flag_words(chip: Chip) -> usize
@@ -150,36 +152,35 @@ pub fn register_of(chip: Chip, address: u32) -> Register
     register_at(chip, aligned)
 }
 
-fn word_only(w: u32) -> u32
-    ensures { result ≡ cond (eqb w 4) 0 5 }
+fn word_only(w: u32) -> Result<(), Refusal>
+    ensures { refusal_number result ≡ cond (eqb w 4) 0 5 }
 {
     if w == 4 {
-        return 0;
+        return Ok(());
     }
-    5
+    Err(Refusal::RegisterWidth)
 }
 
 // Priority bytes are read and written one by one too, but not on ARMv6-M.
-fn bytes_too(chip: Chip, w: u32) -> u32
-    ensures { result ≡ cond (eqb w 2 || (is_armv6m chip && eqb w 1)) 5 0 }
+fn bytes_too(chip: Chip, w: u32) -> Result<(), Refusal>
+    ensures { refusal_number result ≡ cond (eqb w 2 || (is_armv6m chip && eqb w 1)) 5 0 }
 {
     if w == 2 {
-        return 5;
+        return Err(Refusal::RegisterWidth);
     }
     if chip.is_armv6m() {
         if w == 1 {
-            return 5;
+            return Err(Refusal::RegisterWidth);
         }
     }
-    0
+    Ok(())
 }
 
-// 4 where there is no register, 5 where the width is not allowed, else 0.
-pub fn width_refusal(chip: Chip, register: Register, w: u32) -> u32
-    ensures { result ≡ width_refusal chip register w }
+pub fn width_refusal(chip: Chip, register: Register, w: u32) -> Result<(), Refusal>
+    ensures { refusal_number result ≡ width_refusal chip register w }
 {
     match register {
-        Register::Missing => 4,
+        Register::Missing => Err(Refusal::NoRegister),
         Register::Timer(_) => word_only(w),
         Register::Flags(_, _) => word_only(w),
         Register::Priority(_) => bytes_too(chip, w),

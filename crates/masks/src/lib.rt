@@ -60,6 +60,7 @@ fn control_written(chip: Chip, mut masks: Masks, v: u32, thread: bool) -> Masks
     masks
 }
 
+// `which` is any number: docs/TRACE-02.md names this function, and 4 and above is CONTROL.
 // `negative` is whether the execution priority is below 0, `thread` whether nothing is nested.
 pub fn special_written(
     chip: Chip,

@@ -10,8 +10,7 @@ use lib.Signed.{◌≤ℤ◌, ≤ℤ_refl}
 use Rattle.bits.specs.Words.{bit_at}
 use Rattle.bools.specs.Tests.{same, both, either, by_cases}
 use Rattle.grouping.specs.Grouping.{kept_byte}
-use Rattle.priority.specs.declared.Found.{Found}
-use Rattle.priority.specs.declared.Found.TheVariants.{At, Nothing}
+use Rattle.std.specs.Prelude.{Option, Some, None}
 use Rattle.priority.specs.Laws.{more_masks}
 use Rattle.priority.proofs.First.{lower_limit}
 use Rattle.script.specs.declared.Event.{Event}
@@ -36,12 +35,12 @@ use Rattle.masks_hold_back.proofs.Cases.{cases_hold}
 -- ---- the entries
 
 -- of what is chosen in m and in m with other masks
-entries : (m t : Model) (f g : Found) → (g ≡ f) ⊎ (g ≡ Nothing) → HeldBack m (masked_as t m) (enter m f) (enter (masked_as t m) g)
+entries : (m t : Model) (f g : Option ℕ) → (g ≡ f) ⊎ (g ≡ None) → HeldBack m (masked_as t m) (enter m f) (enter (masked_as t m) g)
 unfolding entered
-entries m t Nothing g (inl e) = rw e (record { entered = inr refl; refused = λ _. (refl, refl) })
-entries m t (At n) g (inl e) = rw e (record { entered = inl (refl, refl); refused = λ ne. absurd (ne refl) })
-entries m t Nothing g (inr e) = rw e (record { entered = inr refl; refused = λ _. (refl, refl) })
-entries m t (At n) g (inr e) = rw e (record { entered = inr refl; refused = λ ne. absurd (ne refl) })
+entries m t None g (inl e) = rw e (record { entered = inr refl; refused = λ _. (refl, refl) })
+entries m t (Some n) g (inl e) = rw e (record { entered = inl (refl, refl); refused = λ ne. absurd (ne refl) })
+entries m t None g (inr e) = rw e (record { entered = inr refl; refused = λ _. (refl, refl) })
+entries m t (Some n) g (inr e) = rw e (record { entered = inr refl; refused = λ ne. absurd (ne refl) })
 
 held_back_lem : (m t : Model) → Lowered m t → HeldBack m t (entry_call m) (entry_call t)
 unfolding entry_at

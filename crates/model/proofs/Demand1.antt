@@ -10,7 +10,7 @@ use Rattle.rules.specs.Sound.{is_sound}
 use Rattle.demand1.specs.Demand1 as rules
 use Rattle.demand1.proofs.Demand1.{demand1}
 use Rattle.model.specs.declared.State.{State}
-use Rattle.model.specs.declared.Reply.{Reply}
+use Rattle.model.specs.View.{Reply}
 use Rattle.model.specs.View.{model, state, reply}
 use Rattle.model.specs.Demand1.{Refused, CodeDemand1}
 

@@ -7,7 +7,7 @@ use Rattle.demand3.specs.Demand3.{Calls, Entering}
 use Rattle.demand3.specs.Demand3 as claim
 use Rattle.demand3.proofs.Demand3.{demand3}
 use Rattle.model.specs.declared.State.{State}
-use Rattle.model.specs.declared.Reply.{Reply}
+use Rattle.model.specs.View.{Reply}
 use Rattle.model.specs.View.{model}
 use Rattle.model.specs.Demand3.{answer, Called, stop, call, CodeDemand3}
 

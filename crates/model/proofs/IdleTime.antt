@@ -7,7 +7,7 @@ use Rattle.rules.specs.Chip.{chip55}
 use Rattle.rules.specs.Step.{step_of}
 use Rattle.idle_time.proofs.IdleTime.{idle_time}
 use Rattle.model.specs.declared.State.{State}
-use Rattle.model.specs.declared.Reply.{Reply}
+use Rattle.model.specs.View.{Reply}
 use Rattle.model.specs.View.{model, state}
 use Rattle.model.specs.Demand3.{answer}
 use Rattle.model.specs.IdleTime.{Skipped, CodeIdleTime}

@@ -10,7 +10,7 @@ use Rattle.demand3.proofs.Reached.{calls_sound}
 use Rattle.masks_hold_back.specs.MasksHoldBack.{Lowered, HeldBack}
 use Rattle.masks_hold_back.proofs.MasksHoldBack.{masks_hold_back}
 use Rattle.model.specs.declared.State.{State}
-use Rattle.model.specs.declared.Reply.{Reply}
+use Rattle.model.specs.View.{Reply}
 use Rattle.model.specs.View.{model, state}
 use Rattle.model.specs.Demand3.{answer, Called}
 use Rattle.model.specs.MasksHoldBack.{Entered, CodeMasksHoldBack}

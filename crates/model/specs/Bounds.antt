@@ -5,7 +5,7 @@ use Rattle.rules.specs.Chip.{chip55}
 use Rattle.rules.specs.Model.{fresh}
 use Rattle.demand3.specs.Bounds.{Bounds}
 use Rattle.model.specs.declared.State.{State}
-use Rattle.model.specs.declared.Reply.{Reply}
+use Rattle.model.specs.View.{Reply}
 use Rattle.model.specs.View.{model, state}
 use Rattle.model.specs.Demand3.{answer, Called}
 

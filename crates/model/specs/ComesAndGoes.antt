@@ -6,7 +6,7 @@ use Rattle.rules.specs.Chip.{chip55}
 use Rattle.rules.specs.Sound.{Sound}
 use Rattle.demand3.specs.ComesAndGoes.{Restored}
 use Rattle.model.specs.declared.State.{State}
-use Rattle.model.specs.declared.Reply.{Reply}
+use Rattle.model.specs.View.{Reply}
 use Rattle.model.specs.View.{model}
 use Rattle.model.specs.Demand3.{answer, Called}
 

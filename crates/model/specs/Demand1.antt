@@ -7,7 +7,7 @@ use Rattle.rules.specs.Sound.{is_sound}
 use Rattle.rules.specs.Step.{step_of}
 use Rattle.demand1.specs.Demand1.{refusals}
 use Rattle.model.specs.declared.State.{State}
-use Rattle.model.specs.declared.Reply.{Reply}
+use Rattle.model.specs.View.{Reply}
 use Rattle.model.specs.View.{model, reply}
 
 -- "A refusal returns its number with every other field 0 and changes nothing."

@@ -9,7 +9,7 @@ use Rattle.rules.specs.Sound.{Sound}
 use Rattle.rules.specs.Step.{step_of}
 use Rattle.demand3.specs.Demand3.{Claim, Entering}
 use Rattle.model.specs.declared.State.{State}
-use Rattle.model.specs.declared.Reply.{Reply}
+use Rattle.model.specs.View.{Reply}
 use Rattle.model.specs.View.{model, state, reply}
 
 -- a reply as the rules' answer: the same fields

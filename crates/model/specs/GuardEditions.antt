@@ -10,7 +10,7 @@ use Rattle.rules.specs.Access.{fits_access}
 use Rattle.rules.specs.Step.{step_of}
 use Rattle.guard_editions.specs.GuardEditions.{number, asks}
 use Rattle.model.specs.declared.State.{State}
-use Rattle.model.specs.declared.Reply.{Reply}
+use Rattle.model.specs.View.{Reply}
 use Rattle.model.specs.View.{model, reply}
 
 -- r is what the call `access` hands back on a sound state, for an access of its width at a multiple of it

@@ -7,7 +7,7 @@ use Rattle.rules.specs.Chip.{chip55}
 use Rattle.rules.specs.Step.{step_of}
 use Rattle.idle_time.specs.IdleTime.{ticks, some_one}
 use Rattle.model.specs.declared.State.{State}
-use Rattle.model.specs.declared.Reply.{Reply}
+use Rattle.model.specs.View.{Reply}
 use Rattle.model.specs.View.{model, reply}
 use Rattle.model.specs.Demand3.{answer, Called}
 

@@ -9,7 +9,7 @@ use Rattle.rules.specs.Sound.{Sound}
 use Rattle.rules.specs.Step.{step_of}
 use Rattle.masks_hold_back.specs.MasksHoldBack.{Lowered, HeldBack, Raises}
 use Rattle.model.specs.declared.State.{State}
-use Rattle.model.specs.declared.Reply.{Reply}
+use Rattle.model.specs.View.{Reply}
 use Rattle.model.specs.View.{model, state, reply}
 use Rattle.model.specs.Demand3.{answer, Called}
 

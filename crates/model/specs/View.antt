@@ -2,7 +2,11 @@
 use Rattle.std.specs.Prelude.{◌≡◌, refl}
 use Rattle.rules.specs.Model.{Model, Answer}
 use Rattle.model.specs.declared.State.{State}
-use Rattle.model.specs.declared.Reply.{Reply}
+use Rattle.calls.specs.declared.Reply as calls
+
+-- what a call hands back
+abbrev pub Reply : Type 0
+Reply = calls.Reply State
 
 abbrev pub model : State → Model
 model s =

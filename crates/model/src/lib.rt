@@ -9,13 +9,13 @@ ghost use Rattle.rules.specs.Sound.{is_sound};
 ghost use Rattle.model.specs.View.{model, state};
 
 use mpu::Edition;
-use rules::{Chip, Core, Profile};
+use rules::{Chip, Core, Lent, Profile};
 
-pub mod calls;
+mod stepped;
 
 // Flags and priority bytes stand at exception numbers; the nest holds the active exceptions, the newest last; `lost` counts the rises that
 // each line lost. `core` has the nest's depth and every part that holds no array of the chip's size.
-#[derive(Clone, Copy)]
+#[derive(Clone, Copy, PartialEq, Eq, Debug)]
 pub struct State {
     pub pending: [bool; 71],
     pub active: [bool; 71],
@@ -27,15 +27,8 @@ pub struct State {
     pub core: Core,
 }
 
-// An answer: the refusal or 0, the value, the vector address and link value of an entry, and the next state.
-#[derive(Clone, Copy)]
-pub struct Reply {
-    pub refusal: u32,
-    pub value: u32,
-    pub vector: u32,
-    pub link: u32,
-    pub state: State,
-}
+// What a call answers: its answer, and the next state.
+pub type Reply = calls::Reply<State>;
 
 // `chip55` of the rules.
 pub const CHIP: Chip = Chip {
@@ -97,19 +90,19 @@ impl State {
     }
 
     // The test of refusal 16.
-    pub fn is_sound(self) -> bool
+    pub fn is_sound(mut self) -> bool
         ensures { result ≡ is_sound chip55 (model self) }
     {
-        let pending = self.pending;
-        let active = self.active;
-        let enabled = self.enabled;
-        let level = self.level;
-        let priority = self.priority;
-        let nest = self.nest;
-        let lost = self.lost;
-        let core = self.core;
-        sound_state::is_sound(
-            CHIP, &pending, &active, &enabled, &level, &priority, &nest, &lost, core,
-        )
+        let lent = Lent {
+            pending: &mut self.pending,
+            active: &mut self.active,
+            enabled: &mut self.enabled,
+            level: &mut self.level,
+            priority: &mut self.priority,
+            nest: &mut self.nest,
+            lost: &mut self.lost,
+            core: self.core,
+        };
+        sound_state::is_sound(CHIP, &lent)
     }
 }

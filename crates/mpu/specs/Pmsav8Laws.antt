@@ -1,5 +1,5 @@
 -- Laws of PMSAv8's registers: which region a pair shows, what reads back, and that no pair moves the selected number.
-use Rattle.std.specs.Prelude.{ℕ, ◌/◌, ◌%◌, ◌^◌, ◌<◌, ◌≤◌, ◌≡◌, refl, length}
+use Rattle.std.specs.Prelude.{ℕ, ◌/◌, ◌%◌, ◌^◌, ◌≤◌, ◌≡◌, refl}
 use Rattle.std.proofs.Common.{arith, ne_eqb}
 use Rattle.std.proofs.Math.Seq.{get_or-set_same}
 use Rattle.mpu.specs.declared.Mpu.{Mpu}

@@ -9,13 +9,12 @@ ghost use Rattle.mpu.specs.Editions.{guard_register_at, kept_first, kept_second,
 ghost use Rattle.mpu.specs.Soundness.{region_kept, plain_kept, sound_mpu};
 ghost use Rattle.mpu.specs.Unused.{zero_at, is_unused};
 
-use bools::both;
 use pmsav8::{kept_rlar, region_of};
 
 mod pmsav8;
 
 // Which guard it is: ARMv7-M's, which document 01 describes, or ARMv8-M's (document 02, E12).
-#[derive(Clone, Copy)]
+#[derive(Clone, Copy, PartialEq, Eq, Debug)]
 pub enum Edition {
     Pmsav7,
     Pmsav8,
@@ -23,7 +22,8 @@ pub enum Edition {
 
 // The registers' words. A region has two: in PMSAv7 a base, without its low five bits, and attributes; in PMSAv8 RBAR, where the base
 // stands, and RLAR, where the attributes stand. MAIR0 and MAIR1 are PMSAv8's, and 0 in PMSAv7.
-#[derive(Clone, Copy)]
+// Two arrays, not one of pairs: `sound_mpu`, `Covered` and `Reordered` speak of two lists.
+#[derive(Clone, Copy, PartialEq, Eq, Debug)]
 pub struct Mpu {
     pub control: u32,
     pub region: u32,
@@ -33,8 +33,8 @@ pub struct Mpu {
     pub mair1: u32,
 }
 
-// Kind is the type register at ED90; Missing is no register. Rbar and Rlar have the number of their pair, 0 to 3.
-#[derive(Clone, Copy)]
+// Kind is the type register at ED90; Missing is no register, and a case here since the maps of specs/ (`mpu_register_at`) and `guard_register` of the rules answer it. Rbar and Rlar have the number of their pair, 0 to 3.
+#[derive(Clone, Copy, PartialEq, Eq, Debug)]
 pub enum MpuRegister {
     Kind,
     Control,
@@ -69,6 +69,7 @@ fn register_at(offset: u32) -> MpuRegister
 }
 
 // The register of a guard at a byte offset from 0xE000ED90.
+#[tactic(auto, unfolding(crate::specs::Editions::guard_register_at))]
 pub fn guard_register_at(edition: Edition, offset: u32) -> MpuRegister
     ensures { result ≡ guard_register_at edition offset }
 {
@@ -99,6 +100,7 @@ fn kept_first(edition: Edition, x: u32) -> u32
     }
 }
 
+#[tactic(auto, unfolding(crate::specs::Editions::kept_second))]
 fn kept_second(edition: Edition, x: u32) -> u32
     ensures { result ≡ kept_second edition x }
 {
@@ -121,122 +123,111 @@ fn kept_plain(edition: Edition, x: u32) -> u32
 fn word_at(words: &[u32], n: u32) -> u32
     ensures { result ≡ get_or words.now n 0 }
 {
-    let i = n as usize;
-    if i < words.len() {
-        return words[i];
-    }
-    0
+    words.get(n as usize).copied().unwrap_or(0)
 }
 
 fn with_word(mut words: [u32; 8], n: u32, x: u32) -> [u32; 8]
     ensures { result ≡ set words n x }
 {
     let i = n as usize;
-    if i < 8 {
+    if i < words.len() {
         words[i] = x;
-        return words;
     }
     words
 }
 
-// The caller lends two arrays of eight.
-fn regions_kept(edition: Edition, bases: &[u32], attributes: &[u32]) -> bool
-    requires { length bases.now ≡ length attributes.now }
-    ensures { result ≡ every (region_kept edition bases.now attributes.now) (length attributes.now) }
+// No early end, here and in `all_clear`: so the compiler tests many words at a time.
+fn regions_kept(edition: Edition, bases: &[u32; 8], attributes: &[u32; 8]) -> bool
+    ensures { result ≡ every (region_kept edition bases.now attributes.now) 8 }
 {
     let mut ok = true;
-    let mut i = 0;
-    while i < attributes.len() {
-        let base = kept_first(edition, bases[i]) == bases[i];
-        let kept = both(base, kept_second(edition, attributes[i]) == attributes[i]);
-        ok = both(kept, ok);
-        i += 1;
+    for (base, attributes) in bases.iter().zip(attributes) {
+        let first = kept_first(edition, *base) == *base;
+        let second = kept_second(edition, *attributes) == *attributes;
+        ok &= first & second;
     }
     ok
 }
 
-fn all_clear(words: &[u32]) -> bool
-    ensures { result ≡ every (zero_at words.now) (length words.now) }
+fn all_clear(words: &[u32; 8]) -> bool
+    ensures { result ≡ every (zero_at words.now) 8 }
 {
     let mut ok = true;
-    let mut i = 0;
-    while i < words.len() {
-        ok = both(words[i] == 0, ok);
-        i += 1;
+    for word in words {
+        ok &= *word == 0;
     }
     ok
 }
 
 impl Mpu {
+    #[tactic(auto, unfolding(crate::specs::Registers::fresh_mpu))]
     pub fn fresh() -> Mpu
         ensures { result ≡ fresh_mpu }
     {
-        let zeros = [0u32; 8];
         Mpu {
             control: 0,
             region: 0,
-            bases: zeros,
-            attributes: zeros,
+            bases: [0; 8],
+            attributes: [0; 8],
             mair0: 0,
             mair1: 0,
         }
     }
 
+    #[tactic(auto, unfolding(crate::specs::Soundness::plain_kept))]
     fn plain_kept(self, edition: Edition) -> bool
         ensures { result ≡ plain_kept edition self }
     {
-        let first = kept_plain(edition, self.mair0) == self.mair0;
-        both(first, kept_plain(edition, self.mair1) == self.mair1)
+        kept_plain(edition, self.mair0) == self.mair0
+            && kept_plain(edition, self.mair1) == self.mair1
     }
 
+    #[tactic(auto, unfolding(crate::specs::Soundness::sound_mpu))]
     pub fn is_sound(self, edition: Edition) -> bool
         ensures { result ≡ sound_mpu edition self }
     {
-        let bases = self.bases;
-        let attributes = self.attributes;
-        let front = both(self.control < 8, self.region < 8);
-        let words = both(front, regions_kept(edition, &bases, &attributes));
-        both(words, self.plain_kept(edition))
+        self.control < 8
+            && self.region < 8
+            && regions_kept(edition, &self.bases, &self.attributes)
+            && self.plain_kept(edition)
     }
 
     // Whether all its words are 0, as those of a chip without a guard are.
+    #[tactic(auto, unfolding(crate::specs::Unused::is_unused))]
     pub fn is_unused(self) -> bool
         ensures { result ≡ is_unused self }
     {
-        let bases = self.bases;
-        let attributes = self.attributes;
-        let front = both(self.control == 0, self.region == 0);
-        let first = both(front, all_clear(&bases));
-        let second = both(first, all_clear(&attributes));
-        both(both(second, self.mair0 == 0), self.mair1 == 0)
+        self.control == 0
+            && self.region == 0
+            && all_clear(&self.bases)
+            && all_clear(&self.attributes)
+            && self.mair0 == 0
+            && self.mair1 == 0
     }
 
+    #[tactic(auto, unfolding(crate::specs::Pmsav8::read_rbar))]
     fn read_rbar(self, pair: u32) -> u32
         ensures { result ≡ read_rbar pair self }
     {
-        let bases = self.bases;
-        word_at(&bases, region_of(pair, self.region))
+        word_at(&self.bases, region_of(pair, self.region))
     }
 
+    #[tactic(auto, unfolding(crate::specs::Pmsav8::read_rlar))]
     fn read_rlar(self, pair: u32) -> u32
         ensures { result ≡ read_rlar pair self }
     {
-        let attributes = self.attributes;
-        word_at(&attributes, region_of(pair, self.region))
+        word_at(&self.attributes, region_of(pair, self.region))
     }
 
     pub fn read(self, register: MpuRegister) -> u32
         ensures { result ≡ read_mpu register self }
     {
-        let region = self.region;
-        let bases = self.bases;
-        let attributes = self.attributes;
         match register {
             MpuRegister::Kind => 0x800,
             MpuRegister::Control => self.control,
-            MpuRegister::Number => region,
-            MpuRegister::Base => kept_base(word_at(&bases, region)) + region % 16,
-            MpuRegister::Attributes => word_at(&attributes, region),
+            MpuRegister::Number => self.region,
+            MpuRegister::Base => kept_base(word_at(&self.bases, self.region)) + self.region % 16,
+            MpuRegister::Attributes => word_at(&self.attributes, self.region),
             MpuRegister::Rbar(pair) => self.read_rbar(pair),
             MpuRegister::Rlar(pair) => self.read_rlar(pair),
             MpuRegister::Mair0 => self.mair0,
@@ -245,16 +236,16 @@ impl Mpu {
         }
     }
 
+    #[tactic(auto, unfolding(crate::specs::Registers::with_base))]
     fn with_base(mut self, n: u32, x: u32) -> Mpu
         ensures { result ≡ with_base n x self }
     {
-        let old = self.bases;
-        let bases = with_word(old, n, kept_base(x));
         self.region = n;
-        self.bases = bases;
+        self.bases = with_word(self.bases, n, kept_base(x));
         self
     }
 
+    #[tactic(auto, unfolding(crate::specs::Registers::write_base))]
     fn write_base(self, x: u32) -> Mpu
         ensures { result ≡ write_base x self }
     {
@@ -267,15 +258,15 @@ impl Mpu {
         self.with_base(x % 16, x)
     }
 
+    #[tactic(auto, unfolding(crate::specs::Registers::with_attributes))]
     fn write_attributes(mut self, x: u32) -> Mpu
         ensures { result ≡ with_attributes x self }
     {
-        let old = self.attributes;
-        let attributes = with_word(old, self.region, kept_attributes(x));
-        self.attributes = attributes;
+        self.attributes = with_word(self.attributes, self.region, kept_attributes(x));
         self
     }
 
+    #[tactic(auto, unfolding(crate::specs::Registers::write_number))]
     fn write_number(mut self, x: u32) -> Mpu
         ensures { result ≡ write_number x self }
     {
@@ -296,18 +287,15 @@ impl Mpu {
     fn with_rbar(mut self, pair: u32, x: u32) -> Mpu
         ensures { result ≡ with_rbar pair x self }
     {
-        let old = self.bases;
-        let bases = with_word(old, region_of(pair, self.region), x);
-        self.bases = bases;
+        self.bases = with_word(self.bases, region_of(pair, self.region), x);
         self
     }
 
+    #[tactic(auto, unfolding(crate::specs::Pmsav8::with_rlar))]
     fn with_rlar(mut self, pair: u32, x: u32) -> Mpu
         ensures { result ≡ with_rlar pair x self }
     {
-        let old = self.attributes;
-        let attributes = with_word(old, region_of(pair, self.region), kept_rlar(x));
-        self.attributes = attributes;
+        self.attributes = with_word(self.attributes, region_of(pair, self.region), kept_rlar(x));
         self
     }
 
@@ -325,6 +313,7 @@ impl Mpu {
         self
     }
 
+    #[tactic(auto, unfolding(crate::specs::Registers::write_mpu))]
     pub fn write(self, register: MpuRegister, x: u32) -> Mpu
         ensures { result ≡ write_mpu register x self }
     {

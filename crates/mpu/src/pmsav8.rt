@@ -27,6 +27,7 @@ pub fn register_at(offset: u32) -> MpuRegister
 }
 
 // The region that a pair of registers shows.
+#[tactic(auto, unfolding(crate::specs::Pmsav8::region_of))]
 pub fn region_of(pair: u32, selected: u32) -> u32
     ensures { result ≡ region_of pair selected }
 {

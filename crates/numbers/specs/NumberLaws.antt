@@ -1,11 +1,11 @@
 -- What the groups of a number obey: written they read back, and what is read is spelled in one way only.
-use Rattle.std.specs.Prelude.{ℕ, zero, suc, ◌+◌, ◌-◌, ◌*◌, ◌/◌, ◌%◌, ◌^◌, ◌≤◌, ◌<◌, ◌≡◌, refl, List, [], ◌∷◌, ◌++◌, Bool, true, false, cond, length, get_or, drop, eqb, ltb}
+use Rattle.std.specs.Prelude.{ℕ, zero, suc, ◌+◌, ◌-◌, ◌*◌, ◌/◌, ◌%◌, ◌^◌, ◌≤◌, ◌<◌, ◌≡◌, refl, List, [], ◌∷◌, ◌++◌, Option, Some, None, Bool, true, false, cond, length, get_or, drop, eqb, ltb}
 use Rattle.std.proofs.Common.{sym, ap, ◌∙◌, append_assoc, add-one, arith, length-append, length-drop, drop-cons, lt-ltb, le-ltb, ne_eqb, ltb-true, ltb-false}
 use Rattle.std.proofs.Math.Nat.{pow-succ'}
 use Rattle.std.proofs.Math.Seq.{get_or-append_seam}
 use Rattle.std.proofs.lemmas.Bool.{eqb-false}
-use Rattle.numbers.specs.declared.Number.{Number}
-use Rattle.numbers.specs.declared.Number.TheVariants.{Value, Bad}
+use Rattle.std.proofs.lemmas.Option.{none-some}
+use Rattle.std.proofs.NetLemmas.Options.{same_parts}
 use Rattle.numbers.specs.Number.{groups, number_bytes, joined, groups_at, number_at}
 
 -- the clauses at a count that is not 0, as the code has it
@@ -37,12 +37,12 @@ groups_some l n = cases (ltb n 128)
     cases true = omega arith
     cases false = omega arith
 
-pub groups_at_step : (bytes : List ℕ) (at left : ℕ) → 1 ≤ left → groups_at bytes at left ≡ cond (ltb at (length bytes)) (cond (ltb (get_or bytes at 0) 128) (Value (get_or bytes at 0) (at + 1)) (joined (get_or bytes at 0 - 128) (groups_at bytes (at + 1) (left - 1)))) Bad
+pub groups_at_step : (bytes : List ℕ) (at left : ℕ) → 1 ≤ left → groups_at bytes at left ≡ cond (ltb at (length bytes)) (cond (ltb (get_or bytes at 0) 128) (Some (get_or bytes at 0, at + 1)) (joined (get_or bytes at 0 - 128) (groups_at bytes (at + 1) (left - 1)))) None
 unfolding groups_at
 groups_at_step bytes at zero h = let z : ⊥ = omega arith in absurd z
 groups_at_step bytes at (suc l) h = let e : suc l - 1 ≡ l = omega arith in rw e
 
-joined_value : (g v next : ℕ) → (v ≡ 0 → ⊥) → g + 128 * v < 2 ^ 32 → joined g (Value v next) ≡ Value (g + 128 * v) next
+joined_value : (g v next : ℕ) → (v ≡ 0 → ⊥) → g + 128 * v < 2 ^ 32 → joined g (Some (v, next)) ≡ Some (g + 128 * v, next)
 unfolding joined
 joined_value g v next h k = simp (ne_eqb v 0 h, lt-ltb (g + 128 * v) (2 ^ 32) k)
 
@@ -75,7 +75,7 @@ Bytes bytes = (i : ℕ) → get_or bytes i 0 < 256
 within : (pre : List ℕ) (b : ℕ) (rest : List ℕ) → length pre < length (pre ++ (b ∷ rest))
 within pre b rest = rw (length-append pre (b ∷ rest)) (omega arith)
 
-read_last : (l b : ℕ) (pre rest : List ℕ) → b < 128 → groups_at (pre ++ (b ∷ rest)) (length pre) (suc l) ≡ Value b (length pre + 1)
+read_last : (l b : ℕ) (pre rest : List ℕ) → b < 128 → groups_at (pre ++ (b ∷ rest)) (length pre) (suc l) ≡ Some (b, length pre + 1)
 unfolding groups_at
 read_last l b pre rest h = simp (lt-ltb _ _ (within pre b rest), get_or-append_seam, lt-ltb _ _ h)
 
@@ -84,7 +84,7 @@ unfolding groups_at
 read_more l b pre rest h = simp (lt-ltb _ _ (within pre b rest), get_or-append_seam, le-ltb _ _ h)
 
 abbrev Reads : ℕ → ℕ → List ℕ → List ℕ → Type 0
-Reads l n pre post = groups_at (pre ++ (groups (suc l) n ++ post)) (length pre) (suc l) ≡ Value n (length pre + length (groups (suc l) n))
+Reads l n pre post = groups_at (pre ++ (groups (suc l) n ++ post)) (length pre) (suc l) ≡ Some (n, length pre + length (groups (suc l) n))
 
 short : (l n : ℕ) (pre post : List ℕ) → n < 128 → Reads l n pre post
 short l n pre post h = rw (groups_short (suc l) n (omega arith) h) (read_last l n pre post h)
@@ -109,44 +109,43 @@ groups_written (suc m) n pre post h k = cases (ltb n 128) refl (λ q. groups_wri
     cases true q ih = short (suc m) n pre post (ltb-true n 128 q)
     cases false q ih = long m n pre post (ltb-false n 128 q) k (ih (ltb-false n 128 q))
 
-pub number_written : (n : ℕ) (pre post : List ℕ) → n < 2 ^ 32 → number_at (pre ++ (number_bytes n ++ post)) (length pre) ≡ Value n (length pre + length (number_bytes n))
+pub number_written : (n : ℕ) (pre post : List ℕ) → n < 2 ^ 32 → number_at (pre ++ (number_bytes n ++ post)) (length pre) ≡ Some (n, length pre + length (number_bytes n))
 unfolding number_at number_bytes
 number_written n pre post h = groups_written 4 n pre post (omega arith) h
 
 -- ---- what is read has one spelling
 
-joined_inv : (g : ℕ) (r : Number) (n next : ℕ) → joined g r ≡ Value n next → (v : ℕ) × ((r ≡ Value v next) × ((1 ≤ v) × ((n ≡ g + 128 * v) × (n < 2 ^ 32))))
+joined_inv : (g : ℕ) (r : Option (ℕ × ℕ)) (n next : ℕ) → joined g r ≡ Some (n, next) → (v : ℕ) × ((r ≡ Some (v, next)) × ((1 ≤ v) × ((n ≡ g + 128 * v) × (n < 2 ^ 32))))
 unfolding joined
-joined_inv g Bad n next e = let z : ◌≡◌ {A = ℕ} 0 1 = cc in let x : ⊥ = omega arith in absurd x
-joined_inv g (Value v w) n next e = cases (eqb v 0) refl (ltb (g + 128 * v) (2 ^ 32)) refl
+joined_inv g None n next e = absurd (none-some _ e)
+joined_inv g (Some (v, w)) n next e = cases (eqb v 0) refl (ltb (g + 128 * v) (2 ^ 32)) refl
   where
-    cases : (a : Bool) → eqb v 0 ≡ a → (b : Bool) → ltb (g + 128 * v) (2 ^ 32) ≡ b → (u : ℕ) × ((Value v w ≡ Value u next) × ((1 ≤ u) × ((n ≡ g + 128 * u) × (n < 2 ^ 32))))
-    cases true p b q = let d = simp p at e in let z : ◌≡◌ {A = ℕ} 0 1 = cc in let x : ⊥ = omega arith in absurd x
-    cases false p false q = let d = simp (p, q) at e in let z : ◌≡◌ {A = ℕ} 0 1 = cc in let x : ⊥ = omega arith in absurd x
+    cases : (a : Bool) → eqb v 0 ≡ a → (b : Bool) → ltb (g + 128 * v) (2 ^ 32) ≡ b → (u : ℕ) × ((◌≡◌ {A = Option (ℕ × ℕ)} (Some (v, w)) (Some (u, next))) × ((1 ≤ u) × ((n ≡ g + 128 * u) × (n < 2 ^ 32))))
+    cases true p b q = absurd (none-some _ (simp p at e))
+    cases false p false q = absurd (none-some _ (simp (p, q) at e))
     cases false p true q =
-        let d = simp (p, q) at e in
-        let a : w ≡ next = cc in
-        let m : g + 128 * v ≡ n = cc in
+        let d = same_parts (g + 128 * v) n w next (simp (p, q) at e) in
+        let m = d.0 in
         let o : v ≡ 0 → ⊥ = eqb-false v 0 p in
         let s = ltb-true (g + 128 * v) (2 ^ 32) q in
-        (v, (ap (Value v) a, (omega arith, (sym m, omega arith))))
+        (v, (ap (λ (k : ℕ). Some (v, k)) d.1, (omega arith, (sym m, omega arith))))
 
 pub record NumberRead (bytes : List ℕ) (at n next : ℕ) (spelling : List ℕ) : Type 0 where
   pub spelled : Spells bytes at spelling next
   pub small : n < 2 ^ 32
 
-groups_read : (l : ℕ) (bytes : List ℕ) (at n next : ℕ) → Bytes bytes → groups_at bytes at l ≡ Value n next → NumberRead bytes at n next (groups l n)
+groups_read : (l : ℕ) (bytes : List ℕ) (at n next : ℕ) → Bytes bytes → groups_at bytes at l ≡ Some (n, next) → NumberRead bytes at n next (groups l n)
 unfolding groups_at
-groups_read zero bytes at n next small e = let z : ◌≡◌ {A = ℕ} 0 1 = cc in let x : ⊥ = omega arith in absurd x
+groups_read zero bytes at n next small e = absurd (none-some _ e)
 groups_read (suc l) bytes at n next small e =
     cases (ltb at (length bytes)) refl (ltb (get_or bytes at 0) 128) refl (λ v r. groups_read l bytes (at + 1) v next small r)
   where
-    cases : (a : Bool) → ltb at (length bytes) ≡ a → (b : Bool) → ltb (get_or bytes at 0) 128 ≡ b → ((v : ℕ) → groups_at bytes (at + 1) l ≡ Value v next → NumberRead bytes (at + 1) v next (groups l v)) → NumberRead bytes at n next (groups (suc l) n)
-    cases false p b q ih = let d = simp p at e in let z : ◌≡◌ {A = ℕ} 0 1 = cc in let x : ⊥ = omega arith in absurd x
+    cases : (a : Bool) → ltb at (length bytes) ≡ a → (b : Bool) → ltb (get_or bytes at 0) 128 ≡ b → ((v : ℕ) → groups_at bytes (at + 1) l ≡ Some (v, next) → NumberRead bytes (at + 1) v next (groups l v)) → NumberRead bytes at n next (groups (suc l) n)
+    cases false p b q ih = absurd (none-some _ (simp p at e))
     cases true p true q ih =
-        let d = simp (p, q) at e in
-        let a : get_or bytes at 0 ≡ n = cc in
-        let m : at + 1 ≡ next = cc in
+        let d = same_parts (get_or bytes at 0) n (at + 1) next (simp (p, q) at e) in
+        let a = d.0 in
+        let m = d.1 in
         let h = ltb-true at (length bytes) p in
         let s : n < 128 = omega (arith, ltb-true (get_or bytes at 0) 128 q) in
         rw (groups_short (suc l) n (omega arith) s)
@@ -172,6 +171,6 @@ groups_read (suc l) bytes at n next small e =
           small = i.1.1.1.1;
         })
 
-pub number_read : (bytes : List ℕ) (at n next : ℕ) → Bytes bytes → number_at bytes at ≡ Value n next → NumberRead bytes at n next (number_bytes n)
+pub number_read : (bytes : List ℕ) (at n next : ℕ) → Bytes bytes → number_at bytes at ≡ Some (n, next) → NumberRead bytes at n next (number_bytes n)
 unfolding number_at number_bytes
 number_read bytes at n next small e = groups_read 5 bytes at n next small e

@@ -1,9 +1,10 @@
 // Priority bytes, one or four at a time. Past the end a byte reads 0 and takes nothing.
-ghost use Rattle.std.specs.Prelude.{◌≡◌, ◌+◌, ◌<◌, get_or, set};
+ghost use Rattle.std.specs.Prelude.{◌≡◌, ◌+◌, ◌<◌, get_or};
 ghost use Rattle.bits.specs.Words.{byte_at};
 ghost use Rattle.rules.specs.Reads.{bytes_value};
 ghost use Rattle.rules.specs.Writes.{with_byte, with_bytes};
 
+use super::lists::{at_or, store};
 use exceptions::has_byte;
 use rules::Chip;
 
@@ -11,12 +12,7 @@ use rules::Chip;
 fn byte_after(priority: &[u8], n: usize, k: usize) -> u8
     ensures { result ≡ get_or priority.now (n + k) 0 }
 {
-    if n < priority.len() {
-        if k < priority.len() - n {
-            return priority[n + k];
-        }
-    }
-    0
+    at_or(priority, n.saturating_add(k), 0)
 }
 
 // The bytes from n on as a word, the first the lowest.
@@ -31,20 +27,12 @@ pub fn bytes_value(priority: &[u8], n: usize) -> u32
     )
 }
 
-pub fn store_byte(priority: &mut [u8], n: usize, b: u8)
-    ensures { priority.new ≡ set priority.old n b }
-{
-    if n < priority.len() {
-        priority[n] = b;
-    }
-}
-
 // The low byte of b at n, cut to the chip's bits; nothing where no exception has a byte.
 pub fn put_byte(priority: &mut [u8], chip: Chip, n: usize, b: u32)
     ensures { priority.new ≡ with_byte chip n b priority.old }
 {
     if has_byte(chip, n) {
-        store_byte(priority, n, grouping::kept_byte(b, chip.bits));
+        store(priority, n, grouping::kept_byte(b, chip.bits));
     }
 }
 
@@ -53,11 +41,8 @@ pub fn put_byte_after(priority: &mut [u8], chip: Chip, n: usize, lane: u32, b: u
     requires { lane < 4 }
     ensures { priority.new ≡ with_byte chip (n + lane) b priority.old }
 {
-    let k = lane as usize;
-    if n < priority.len() {
-        if k < priority.len() - n {
-            put_byte(priority, chip, n + k, b);
-        }
+    if let Some(i) = n.checked_add(lane as usize) {
+        put_byte(priority, chip, i, b);
     }
 }
 

@@ -1,32 +1,32 @@
-// Flags: one read or stored, and pending cleared by a word. Past the end a flag reads as clear and takes nothing.
-ghost use Rattle.std.specs.Prelude.{◌≡◌, set};
+// Flags: one read, and pending cleared by a word. Past the end a flag reads as clear.
+ghost use Rattle.std.specs.Prelude.{◌≡◌};
 ghost use Rattle.flag_words.specs.Flags.{on, clear_flags};
+ghost use Rattle.rules.specs.Lent.{SameLoan, view};
+ghost use Rattle.rules.specs.Model.{with_pending};
 ghost use Rattle.rules.specs.Writes.{clearable};
+
+use super::lists::at_or;
+use rules::Lent;
 
 pub fn flag_at(flags: &[bool], n: usize) -> bool
     ensures { result ≡ on flags.now n }
 {
-    if n < flags.len() {
-        return flags[n];
-    }
-    false
+    at_or(flags, n, false)
 }
 
-pub fn store_flag(flags: &mut [bool], n: usize, value: bool)
-    ensures { flags.new ≡ set flags.old n value }
+// What a word clears: a line that is high and not active keeps its pending flag.
+fn clearable(state: &Lent<'_>, n: usize, v: u32) -> u32
+    ensures { result ≡ clearable state.now.level.now state.now.active.now n v }
 {
-    if n < flags.len() {
-        flags[n] = value;
-    }
+    let high = flag_words::flags_word(state.level, n);
+    let held = bits::clear_ones(high, flag_words::flags_word(state.active, n));
+    bits::clear_ones(v, held)
 }
 
-// A line that is high and not active keeps its pending flag.
-pub fn clear_pending(pending: &mut [bool], level: &[bool], active: &[bool], n: usize, v: u32)
-    ensures { pending.new ≡ clear_flags pending.old n (clearable level.now active.now n v) }
+pub fn clear_pending(state: &mut Lent<'_>, n: usize, v: u32)
+    ensures clears { view state.new ≡ with_pending (clear_flags state.old.pending.now n (clearable state.old.level.now state.old.active.now n v)) (view state.old) }
+    ensures loan { SameLoan state.old state.new }
 {
-    let held = bits::clear_ones(
-        flag_words::flags_word(level, n),
-        flag_words::flags_word(active, n),
-    );
-    flag_words::clear_flags(pending, n, bits::clear_ones(v, held));
+    let cleared = clearable(state, n, v);
+    flag_words::clear_flags(state.pending, n, cleared);
 }

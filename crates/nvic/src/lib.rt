@@ -3,4 +3,5 @@
 
 pub mod bytes;
 pub mod flags;
+pub mod lists;
 pub mod nest;

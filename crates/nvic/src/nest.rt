@@ -3,6 +3,8 @@ ghost use Rattle.std.specs.Prelude.{◌≡◌};
 ghost use Rattle.rules.specs.Model.{down, top};
 ghost use Rattle.rules.specs.Nesting.{link_fits};
 
+use super::lists::at_or;
+
 // The newest of the nest, 0 where nothing is nested.
 pub fn top_of(nest: &[u8], depth: usize) -> u32
     ensures { result ≡ top (down nest.now depth) }
@@ -10,11 +12,7 @@ pub fn top_of(nest: &[u8], depth: usize) -> u32
     if depth == 0 {
         return 0;
     }
-    let i = depth - 1;
-    if i < nest.len() {
-        return bits::wide(nest[i]);
-    }
-    0
+    bits::wide(at_or(nest, depth - 1, 0))
 }
 
 // Whether a return with the link value v fits the number nested.

@@ -14,7 +14,7 @@ use Rattle.old_scripts.specs.Alike.{Agreeing}
 use Rattle.old_scripts.specs.OldScripts.{Grown}
 use Rattle.old_scripts.proofs.OldScripts.{fits_too, old_scripts}
 use Rattle.any_chip.specs.declared.State.{State}
-use Rattle.any_chip.specs.declared.Reply.{Reply}
+use Rattle.any_chip.specs.View.{Reply}
 use Rattle.any_chip.specs.View.{model, state}
 use Rattle.any_chip.specs.Demand3.{answer, Called}
 use Rattle.any_chip.proofs.Demand3.{code_demand3}

@@ -11,13 +11,11 @@ use Rattle.rules.specs.Priorities.{execution}
 use Rattle.old_scripts.specs.OldScripts.{are_old}
 use Rattle.pieces.specs.Joined.{joined}
 use Rattle.any_chip.specs.declared.State.{State}
-use Rattle.any_chip.specs.declared.Reply.{Reply}
+use Rattle.any_chip.specs.View.{Reply}
 use Rattle.any_chip.specs.View.{model, state}
 use Rattle.any_chip.specs.Demand3.{Called}
-use Rattle.any_run.specs.declared.Progress.{Progress}
-use Rattle.any_run.specs.Progress.{started}
+use Rattle.any_run.specs.Progress.{Progress, started}
 use Rattle.any_run.specs.Joined.{Continued}
-use Rattle.run.specs.declared.Progress as bench-progress
 use Rattle.run.specs.Progress as bench-start
 use Rattle.run.specs.Joined as bench-run
 
@@ -51,5 +49,5 @@ pub record OldReplies (s t : Setup) : Type 0 where
 abbrev pub AsBench : Setup → Type 0
 AsBench t =
     (script : List ℕ) → Bytes script → T (are_old chip55 (chip_of t) (script_of script).events)
-    → (outs here others there : List (List ℕ)) (p : bench-progress.Progress) (q : Progress) → bench-run.Continued script bench-start.started outs here p → Continued script (started t) others there q
+    → (outs here others there : List (List ℕ)) (p : bench-start.Progress) (q : Progress) → bench-run.Continued script bench-start.started outs here p → Continued script (started t) others there q
     → p.ended ≡ true → q.ended ≡ true → joined here ≡ joined there

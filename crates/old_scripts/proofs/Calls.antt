@@ -11,8 +11,7 @@ use borrow.Author.Tests.{lt-leb}
 use Rattle.bools.specs.Tests.{by_cases}
 use Rattle.bits.specs.Words.{bit}
 use Rattle.flag_words.specs.Flags.{on}
-use Rattle.priority.specs.declared.Found.{Found}
-use Rattle.priority.specs.declared.Found.TheVariants.{At, Nothing}
+use Rattle.std.specs.Prelude.{Option, Some, None}
 use Rattle.priority.specs.Priority.{execution_nested, masked}
 use Rattle.systick.specs.declared.Timer.{Timer}
 use Rattle.systick.specs.declared.Ticked.{Ticked}
@@ -216,10 +215,10 @@ module _ {c d : Chip} (g : Grown c d) {m t : Model} (h : Sound c m) (k : Sound d
       (λ _. by_cases (To e) (is_in b (16 ∷ 17 ∷ 18 ∷ 19 ∷ 24 ∷ 25 ∷ [])) (λ _. raise e 6 (omega arith))
       (λ _. meets_refuse refl a))))
     where
-      To : ℤ → Found → Type 0
+      To : ℤ → Option ℕ → Type 0
       To e o = Meets (fault_raised c e m o b address) (fault_raised d e t o b address)
 
-      raise : (e : ℤ) (n : ℕ) → n < 16 → To e (At n)
+      raise : (e : ℤ) (n : ℕ) → n < 16 → To e (Some n)
       raise e n l = both_ways Meets (is_negative e) (is_negative e) refl (λ _. meets_refuse refl a) (λ _. raised_meets e n (fault_status b address) l)
 
   pub svc_meets : Meets (svc_call c m) (svc_call d t)
@@ -245,10 +244,10 @@ module _ {c d : Chip} (g : Grown c d) {m t : Model} (h : Sound c m) (k : Sound d
 
   -- ---- entry and return
 
-  enter_meets : (o : Found) → chosen m ≡ o → Meets (enter m o) (enter t o)
+  enter_meets : (o : Option ℕ) → chosen m ≡ o → Meets (enter m o) (enter t o)
   unfolding entered
-  enter_meets Nothing e = meets_refuse refl a
-  enter_meets (At n) e =
+  enter_meets None e = meets_refuse refl a
+  enter_meets (Some n) e =
       let b = chosen_below h n e in
       record {
         refusal = refl;

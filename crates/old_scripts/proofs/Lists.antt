@@ -13,9 +13,9 @@ use borrow.Author.Tests.{eqb-true, eqb-false}
 use Rattle.bits.specs.Words.{bit}
 use Rattle.flag_words.specs.Flags.{on, word_of, put_flag, put_flags, some_flag, any_flag}
 use Rattle.grouping.specs.Grouping.{grouped, full_priority, group_priority}
-use Rattle.priority.specs.declared.Found.{Found}
-use Rattle.priority.specs.declared.Found.TheVariants.{At, Nothing}
+use Rattle.std.specs.Prelude.{Option, Some, None}
 use Rattle.priority.specs.Priority.{least_nested, eligible, better, best, best_pending}
+use Rattle.priority.proofs.Laws.{unable}
 use Rattle.rules.specs.Model.{down}
 use Rattle.demand3.proofs.Parts.{get_d_fresh}
 use Rattle.old_scripts.specs.Alike.{Same}
@@ -129,13 +129,9 @@ module _ (p : ℕ) (b b' : List ℕ) (s : Same 0 b b') where
 
 -- ---- the one to enter
 
-better_off : (key : ℕ → ℤ) (n : ℕ) (f : Found) → better false key n f ≡ f
-better_off key n Nothing = refl
-better_off key n (At m) = refl
-
-better_same : (key key' : ℕ → ℤ) → ((n : ℕ) → key n ≡ key' n) → (able : Bool) (n : ℕ) (f : Found) → better able key n f ≡ better able key' n f
-better_same key key' e able n Nothing = refl
-better_same key key' e able n (At m) = rw (e n, e m)
+better_same : (key key' : ℕ → ℤ) → ((n : ℕ) → key n ≡ key' n) → (able : Bool) (n : ℕ) (f : Option ℕ) → better able key n f ≡ better able key' n f
+better_same key key' e able n None = refl
+better_same key key' e able n (Some m) = rw (e n, e m)
 
 best_same : (test test' : ℕ → Bool) (key key' : ℕ → ℤ) → ((n : ℕ) → test n ≡ test' n) → ((n : ℕ) → key n ≡ key' n) → (k : ℕ) → best test key k ≡ best test' key' k
 unfolding best
@@ -147,7 +143,7 @@ best_past : (test : ℕ → Bool) (key : ℕ → ℤ) (j k : ℕ) → ((n : ℕ)
 unfolding best
 best_past test key j zero off = ap (best test key) (zero-add j)
 best_past test key j (suc k) off =
-    rw (suc-add k j, off (k + j) (omega arith)) (better_off key (k + j) (best test key (k + j)) ∙ best_past test key j k off)
+    rw (suc-add k j, off (k + j) (omega arith)) (unable key (k + j) (best test key (k + j)) ∙ best_past test key j k off)
 
 module _ (p : ℕ) (b b' : List ℕ) (s : Same 0 b b') (limit : ℤ) where
   same_eligible : (l r e f : List Bool) → Same false l r → Same false e f → (n : ℕ) → eligible p b l e limit n ≡ eligible p b' r f limit n

@@ -1,13 +1,13 @@
 -- Document 02, E4: "An old script for 55 lines gives the same output lines on the new chip, provided that it names no line above 54 in any event
 -- or SWTRIG value, and reads or writes none of .." these addresses. Stated of any two chips c and d, d with as many lines or more.
-use Rattle.std.specs.Prelude.{ℕ, ◌+◌, ◌-◌, ◌*◌, ◌/◌, ◌≤◌, ◌≡◌, refl, List, [], ◌∷◌, Bool, true, false, not, ◌&&◌, T, ltb, leb, eqb}
+use Rattle.std.specs.Prelude.{ℕ, ◌+◌, ◌-◌, ◌*◌, ◌/◌, ◌≤◌, ◌≡◌, List, [], ◌∷◌, Bool, true, false, not, ◌&&◌, T, ltb, leb, eqb}
 use Rattle.bools.specs.Tests.{implies}
 use Rattle.bits.specs.Words.{field}
 use Rattle.script.specs.declared.Event.{Event}
 use Rattle.script.specs.declared.Event.TheVariants as event
 use Rattle.script.specs.Script.{script_of}
 use Rattle.rules.specs.declared.Chip.{Chip}
-use Rattle.rules.specs.Chip.{chip55, chip240, is_armv6m, fits}
+use Rattle.rules.specs.Chip.{is_armv6m, fits}
 use Rattle.rules.specs.Model.{fresh}
 use Rattle.rules.specs.Blocks.{flag_words, byte_words}
 use Rattle.rules.specs.Step.{answers_of}

@@ -1,19 +1,20 @@
 -- What each way out of a call gives is what the call promises.
 use Prim.Native.Nat.{ℕ, ◌-◌, ◌≤◌, ◌<◌}
-use mathlib.Core.Path.{◌≡◌, refl, sym, ap, subst, ◌∙◌}
+use mathlib.Core.Path.{◌≡◌, refl, ap, ◌∙◌}
 use mathlib.Core.List.{List, [], ◌++◌, append-nil}
 use mathlib.Core.Bool.{Bool, true, false, cond}
 use native.Mathlib.Omega.{arith}
 use lib.ListN.{length}
 use lib.Dec.{T, leb, leb→le}
 use borrow.Author.Tests.{lt-ltb, le-ltb, le-leb, lt-leb, leb-true, leb-false}
+use Rattle.refusals.specs.declared.Refusal.{Refusal}
+use Rattle.refusals.specs.Refusals.{number_of}
 use Rattle.bools.specs.Tests.{is_true, true_is, both}
 use Rattle.decimal.specs.Decimal.{broken_text, line_room}
 use Rattle.decimal.specs.Written.{Puts, puts_append}
 use Rattle.rules.specs.declared.Chip.{Chip}
 use Rattle.rules.specs.declared.Core.{Core}
 use Rattle.rules.specs.Chip.{fits}
-use Rattle.rules.specs.Lent.{model_of}
 use Rattle.rules.specs.Model.{Model}
 use Rattle.rules.specs.Sound.{is_sound}
 use Rattle.demand3.proofs.Check.{of_sound}
@@ -78,18 +79,21 @@ module _ {c : Chip} {script : List ℕ} {m : Model} {p : Course} {old : List ℕ
   pub ran_refused : p.ended ≡ false → T (fits c) → length script ≤ 65536 → is_usable c m p ≡ false → p.core ≡ m.core → Ran c script m p old m (refused p) old
   ran_refused e f h u k = ran_by _ (piece_refused c script m p (length old) e f h u) _ (rw k) old (puts_none 0 old) (omega arith)
 
--- a call of which no event runs leaves the core, and so the model
-module _ {c : Chip} {script : List ℕ} {pending active enabled level : List Bool} {priority nest lost : List ℕ} {p : Course} {old : List ℕ} {r : Course} {new : List ℕ} where
-  unrun_by : {refusal number offset : ℕ} → piece_of c script (model_of pending active enabled level priority nest lost p.core) p (length old) ≡ record { model = model_of pending active enabled level priority nest lost p.core; at = p.at; events = p.events; ended = leb line_room (length old); refusal = refusal; text = line_alone number offset (length old) } → Unrun p refusal number offset old r new → Ran c script (model_of pending active enabled level priority nest lost p.core) p old (model_of pending active enabled level priority nest lost r.core) r new
-  unrun_by q n =
-      subst (λ (x : Core). Ran c script (model_of pending active enabled level priority nest lost p.core) p old (model_of pending active enabled level priority nest lost x) r new) (sym (ap (λ (x : Course). x.core) n.course))
-      (ran_by _ q r n.course new n.puts n.within)
+-- What a call does hangs on no core but the model's.
+pub ran_with : {c : Chip} {script : List ℕ} {m : Model} {p : Course} {old : List ℕ} {t : Model} {r : Course} {new : List ℕ} (k : Core) → Ran c script m (record { core = k; at = p.at; events = p.events; wrote = p.wrote; ended = p.ended; refusal = p.refusal }) old t r new → Ran c script m p old t r new
+unfolding piece_of is_usable
+ran_with k h = record { model = h.model; course = h.course; bytes = h.bytes; within = h.within }
 
-  pub ran_unadmitted : p.ended ≡ false → fits c ≡ false → Unrun p 17 17 0 old r new → Ran c script (model_of pending active enabled level priority nest lost p.core) p old (model_of pending active enabled level priority nest lost r.core) r new
-  ran_unadmitted e f n = unrun_by (piece_unadmitted c script _ p (length old) e f) n
+-- a call of which no event runs
+module _ {c : Chip} {script : List ℕ} {m : Model} {p : Course} {old : List ℕ} {r : Course} {new : List ℕ} where
+  unrun_by : {refusal number offset : ℕ} → p.core ≡ m.core → piece_of c script m p (length old) ≡ record { model = m; at = p.at; events = p.events; ended = leb line_room (length old); refusal = refusal; text = line_alone number offset (length old) } → Unrun p refusal number offset old r new → Ran c script m p old m r new
+  unrun_by k q n = ran_by _ q r (rw k at n.course) new n.puts n.within
 
-  pub ran_long : p.ended ≡ false → T (fits c) → 65536 < length script → Unrun p 0 15 65536 old r new → Ran c script (model_of pending active enabled level priority nest lost p.core) p old (model_of pending active enabled level priority nest lost r.core) r new
-  ran_long e f long n = unrun_by (piece_long c script _ p (length old) e f long ∙ gone_long c script _ p (length old) long (leb line_room (length old)) refl) n
+  pub ran_unadmitted : p.core ≡ m.core → p.ended ≡ false → fits c ≡ false → Unrun p 17 17 0 old r new → Ran c script m p old m r new
+  ran_unadmitted k e f n = unrun_by k (piece_unadmitted c script m p (length old) e f) n
+
+  pub ran_long : p.core ≡ m.core → p.ended ≡ false → T (fits c) → 65536 < length script → Unrun p 0 15 65536 old r new → Ran c script m p old m r new
+  ran_long k e f long n = unrun_by k (piece_long c script m p (length old) e f long ∙ gone_long c script m p (length old) long (leb line_room (length old)) refl) n
 
 -- a run of which no event runs: no room for its line, and its line
 module _ {p : Course} {number offset : ℕ} {old : List ℕ} where
@@ -113,17 +117,17 @@ module _ {p : Course} {number offset : ℕ} {old : List ℕ} where
       }
 
 -- where no event can be read: at the end, and before it
-module _ {script : List ℕ} {p : Course} {number : ℕ} {out : List ℕ} (k : Stuck script p number out) where
+module _ {script : List ℕ} {p : Course} {refusal : Refusal} {out : List ℕ} (k : Stuck script p refusal out) where
   pub closed_end : length script ≤ p.at → Closed script p out (finished p p.wrote) out
   unfolding end_text
   closed_end h =
       let s = script_end script k.short p.at h in
       record { none = rw s; done = refl; puts = rw s (puts_none p.wrote out); within = omega (arith, k.room) }
 
-  pub closed_broken : p.at < length script → (wrote : ℕ) (new : List ℕ) → Puts p.wrote (broken_text number p.at) out wrote new → wrote ≤ length out → Closed script p out (finished p wrote) new
+  pub closed_broken : p.at < length script → (wrote : ℕ) (new : List ℕ) → Puts p.wrote (broken_text (number_of refusal) p.at) out wrote new → wrote ≤ length out → Closed script p out (finished p wrote) new
   unfolding end_text
   closed_broken h wrote new w l =
-      let s = script_refused script k.short p.at number h k.refused in
+      let s = script_refused script k.short p.at refusal h k.refused in
       record { none = rw s; done = refl; puts = rw s w; within = l }
 
 module _ {c : Chip} {script : List ℕ} {m : Model} {p : Course} {old : List ℕ} {t : Model} {at events wrote : ℕ} {new : List ℕ} (y : Underway c script m p) (g : Going c script m p.at p.events old t at events wrote new) where
@@ -139,15 +143,10 @@ module _ {c : Chip} {script : List ℕ} {m : Model} {p : Course} {old : List ℕ
       ran_by _ q _ (rw d) new g.puts g.within
 
   -- the script is at its end, or broken
-  closed_at : line_room ≤ length old - wrote → (r : Course) (newer : List ℕ) → Closed script (going t.core at events wrote) new r newer → Ran c script m p old t r newer
-  closed_at h r newer d =
+  pub ran_closed : line_room ≤ length old - wrote → (r : Course) (newer : List ℕ) → Closed script (going t.core at events wrote) new r newer → Ran c script m p old t r newer
+  ran_closed h r newer d =
       let z = g.sized in
       let n = puts_append (omega arith) g.puts d.puts in
       let q : piece_of c script m p (length old) ≡ still true t at events (g.lines ++ end_text (script_at script at).end) = on_from ∙ rw (gone_closed c script t at events (length old - wrote) d.none h) in
       let l : r.wrote ≡ length (g.lines ++ end_text (script_at script at).end) = omega (arith, n.next_is) in
       ran_by _ q r (d.done ∙ rw l) newer n (omega (arith, d.within))
-
--- closing leaves the core, and so the model
-pub ran_closed : {c : Chip} {script : List ℕ} {m : Model} {p : Course} {old : List ℕ} {pending active enabled level : List Bool} {priority nest lost : List ℕ} {k : Core} {at events wrote : ℕ} {new : List ℕ} → Underway c script m p → Going c script m p.at p.events old (model_of pending active enabled level priority nest lost k) at events wrote new → line_room ≤ length old - wrote → (r : Course) (newer : List ℕ) → Closed script (going k at events wrote) new r newer → Ran c script m p old (model_of pending active enabled level priority nest lost r.core) r newer
-ran_closed {c} {script} {m} {p} {old} {pending} {active} {enabled} {level} {priority} {nest} {lost} y g h r newer d =
-    subst (λ (x : Core). Ran c script m p old (model_of pending active enabled level priority nest lost x) r newer) (sym (ap (λ (x : Course). x.core) d.done)) (closed_at y g h r newer d)

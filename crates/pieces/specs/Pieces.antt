@@ -1,9 +1,9 @@
 -- A script run a piece at a time, on any chip: what a call hands back, leaves and writes, for every input.
-use Rattle.std.specs.Prelude.{ℕ, zero, suc, ◌+◌, ◌-◌, ◌≤◌, ◌≡◌, List, [], ◌∷◌, ◌++◌, Bool, true, false, cond, ◌&&◌, ◌||◌, length, take, ltb, leb}
+use Rattle.std.specs.Prelude.{ℕ, zero, suc, ◌+◌, ◌-◌, ◌≤◌, ◌≡◌, List, [], ◌∷◌, ◌++◌, Result, Ok, Err, Bool, true, false, cond, ◌&&◌, ◌||◌, length, take, ltb, leb}
 use Rattle.decimal.specs.Decimal.{broken_text, line_room}
 use Rattle.decimal.specs.Written.{Puts}
-use Rattle.script.specs.declared.ReadEvent.{ReadEvent}
-use Rattle.script.specs.declared.ReadEvent.TheVariants.{Found, Refused}
+use Rattle.refusals.specs.declared.Refusal.{Refusal}
+use Rattle.script.specs.declared.Event.{Event}
 use Rattle.script.specs.Reading.{read_event}
 use Rattle.script.specs.Script.{Script, broken_by, script_from}
 use Rattle.rules.specs.declared.Chip.{Chip}
@@ -43,9 +43,9 @@ unfoldable pub all_fit : ℕ → ℕ → List Answer → Bool
 all_fit room number [] = leb line_room room
 all_fit room number (a ∷ rest) = cond (leb line_room room) (all_fit (room - length (line_of number a)) (suc number) rest) false
 
-unfoldable pub passed : ℕ → ReadEvent → (ℕ → ℕ) → ℕ
-passed at (Found e next) rest = rest next
-passed at (Refused number) rest = at
+unfoldable pub passed : ℕ → Result (Event × ℕ) Refusal → (ℕ → ℕ) → ℕ
+passed at (Ok (e, next)) rest = rest next
+passed at (Err r) rest = at
 
 -- the offset after so many events
 unfoldable pub offset_after : List ℕ → ℕ → ℕ → ℕ

@@ -1,15 +1,15 @@
 -- The steps of a call: what `run_some` promises does not mention them.
-use Rattle.std.specs.Prelude.{ℕ, ◌+◌, ◌≤◌, ◌≡◌, List, [], true, false, length, T, leb, ℤ}
+use Rattle.std.specs.Prelude.{ℕ, ◌+◌, ◌≤◌, ◌≡◌, List, [], Err, true, false, length, T, leb, ℤ}
 use Rattle.decimal.specs.Decimal.{line_text, line_room}
 use Rattle.decimal.specs.Written.{Puts}
 use Rattle.priority.specs.Priority.{execution_nested}
-use Rattle.script.specs.declared.ReadEvent.TheVariants.{Refused}
+use Rattle.refusals.specs.declared.Refusal.{Refusal}
 use Rattle.script.specs.Reading.{read_event}
 use Rattle.rules.specs.declared.Chip.{Chip}
 use Rattle.rules.specs.Chip.{fits}
 use Rattle.rules.specs.declared.Core.{Core}
-use Rattle.rules.specs.declared.Outcome.{Outcome}
-use Rattle.rules.specs.Model.{Model, down, top}
+use Rattle.rules.specs.Model.{Model, stack, top}
+use Rattle.parts.specs.declared.Numbers.{Numbers}
 use Rattle.text.specs.Text.{end_text}
 use Rattle.pieces.specs.declared.Course.{Course}
 use Rattle.pieces.specs.Pieces.{script_at, is_usable, line_alone}
@@ -37,10 +37,10 @@ pub record Underway (c : Chip) (script : List ℕ) (m : Model) (p : Course) : Ty
   pub going : p.ended ≡ false
   pub tested : is_usable c m p ≡ true
 
--- the line of an answer is written from an offset on
-pub record Told (bytes nest : List ℕ) (done : Outcome) (number at : ℕ) (old : List ℕ) (limit : ℤ) (end : ℕ) (new : List ℕ) : Type 0 where
-  pub priority : limit ≡ execution_nested done.core.group bytes nest done.core.depth done.core.masks.basepri done.core.masks.primask done.core.masks.faultmask
-  pub line : Puts at (line_text number done.refusal done.value (top (down nest done.core.depth)) limit) old end new
+-- the line of an answer, which left this model, is written from an offset on
+pub record Told (m : Model) (done : Numbers) (number at : ℕ) (old : List ℕ) (limit : ℤ) (end : ℕ) (new : List ℕ) : Type 0 where
+  pub priority : limit ≡ execution_nested m.core.group m.priority m.nest m.core.depth m.core.masks.basepri m.core.masks.primask m.core.masks.faultmask
+  pub line : Puts at (line_text number done.refusal done.value (top (stack m)) limit) old end new
   pub within : end ≤ at + line_room
 
 -- No event runs: the line `script R at B` is written and ends the script, where it has room. `refusal` is handed back, 0 where the line alone says why.
@@ -50,9 +50,9 @@ pub record Unrun (p : Course) (refusal number offset : ℕ) (old : List ℕ) (r 
   pub within : r.wrote ≤ length old
 
 -- no event can be read, by this refusal, and a line has room
-pub record Stuck (script : List ℕ) (p : Course) (number : ℕ) (out : List ℕ) : Type 0 where
+pub record Stuck (script : List ℕ) (p : Course) (r : Refusal) (out : List ℕ) : Type 0 where
   pub short : length script ≤ 65536
-  pub refused : read_event script p.at ≡ Refused number
+  pub refused : read_event script p.at ≡ Err r
   pub room : p.wrote + line_room ≤ length out
 
 -- no event is left, and the text of the end is written

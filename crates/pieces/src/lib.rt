@@ -4,18 +4,32 @@
 ghost use Rattle.std.specs.Prelude.{◌≡◌, List, ℕ, ◌≤◌, ◌+◌, length};
 ghost use Rattle.decimal.specs.Decimal.{line_room};
 ghost use Rattle.rules.specs.declared.Chip.{Chip};
+ghost use Rattle.rules.specs.Lent.{view};
 ghost use Rattle.rules.specs.Model.{fresh};
+ghost use Rattle.parts.specs.Numbers.{numbers};
 ghost use Rattle.text.specs.Text.{text_of};
 ghost use Rattle.pieces.specs.Pieces.{started, Usable, rest_of};
 ghost use Rattle.pieces.specs.Steps.{unmoved, refused, going, finished, Unrun, Told, Stuck, Closed};
 
-use rules::{Chip, Core, Outcome};
+use refusals::Refusal;
+use rules::{Chip, Core, Lent, Outcome};
 
 // How far a script has run, beside the lists of the state: its other parts after `events` events, the offset of the next, whether the
 // script has ended, how many bytes of the buffer the last call wrote, and 17 or 16 where it was refused.
 #[derive(Clone, Copy)]
 pub struct Course {
     pub core: Core,
+    pub at: usize,
+    pub events: u32,
+    pub wrote: usize,
+    pub ended: bool,
+    pub refusal: u32,
+}
+
+// How far a script has run on a state by value: the state after `events` events, and the rest as in a course.
+#[derive(Clone, Copy)]
+pub struct Progress<S> {
+    pub state: S,
     pub at: usize,
     pub events: u32,
     pub wrote: usize,
@@ -94,31 +108,31 @@ pub fn finished(mut p: Course, wrote: usize) -> Course
 }
 
 // Where no event can be read a script ends, or breaks. Called with room for the line.
-pub fn close(script: &[u8], p: Course, number: u32, out: &mut [u8]) -> Course
-    requires { Stuck script.now p number out.old }
+pub fn close(script: &[u8], p: Course, refusal: Refusal, out: &mut [u8]) -> Course
+    requires { Stuck script.now p refusal out.old }
     ensures { Closed script.now p out.old result out.new }
 {
     if script.len() <= p.at {
         return finished(p, p.wrote);
     }
+    let number = u32::from(refusal);
     finished(p, decimal::put_broken(out, p.wrote, number, p.at as u32))
 }
 
-// The line of an event, from what the event left. Called with room for the line.
+// The line of an event, from its outcome and the state that it left. Called with room for the line.
 pub fn put_answer(
-    priority: &[u8],
-    nest: &[u8],
-    done: Outcome,
+    state: &Lent<'_>,
+    outcome: Outcome,
     number: u32,
     out: &mut [u8],
     at: usize,
 ) -> Line
-    requires { (done.core.depth ≤ length nest.now) × (at + line_room ≤ length out.old) }
-    ensures { Told priority.now nest.now done number at out.old result.limit result.end out.new }
+    requires { (state.now.core.depth ≤ length state.now.nest.now) × (at + line_room ≤ length out.old) }
+    ensures { Told (view state.now) (numbers outcome) number at out.old result.limit result.end out.new }
 {
-    let core = done.core;
-    let limit = sound_state::execution(priority, nest, core);
-    let top = nvic::nest::top_of(nest, core.depth);
+    let done = parts::numbered(outcome);
+    let limit = sound_state::execution(state);
+    let top = nvic::nest::top_of(state.nest, state.core.depth);
     let end = decimal::put_line(out, at, number, done.refusal, done.value, top, limit);
     Line { limit, end }
 }

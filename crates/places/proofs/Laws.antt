@@ -19,10 +19,10 @@ pub in_size : {n size : ℕ} → InBlocks n size → n ≤ size
 in_size (inl h) = omega arith
 in_size (inr e) = omega arith
 
--- a chip whose places come nearer than a block to the array's end has them all
-pub at_end : {n size : ℕ} → InBlocks n size → size < n + 64 → n ≡ size
-at_end (inl h) k = let z : ⊥ = omega arith in absurd z
-at_end (inr e) k = e
+-- a chip that has not all of an array leaves a block of it
+pub has_block : {n size : ℕ} → InBlocks n size → (n ≡ size → ⊥) → n + 64 ≤ size
+has_block (inl h) k = h
+has_block (inr e) k = absurd (k e)
 
 or_assoc : (a b c : Bool) → ((a || b) || c) ≡ (a || (b || c))
 or_assoc true b c = refl
@@ -53,8 +53,8 @@ further holds n i found h q =
     sym (ap (some_past holds n) e ∙ split holds n (i - n) 64 ∙ (λ k. some_past holds (f k) 64 || sym q k))
 
 -- the last block, which overlaps the one that ends at i
-pub covered : (holds : ℕ → Bool) (n i last : ℕ) (found : Bool) → n ≤ last → last ≤ i → i ≤ last + 64 → found ≡ some_past holds n (i - n) → (some_past holds last 64 || found) ≡ some_past holds n (last + 64 - n)
-covered holds n i last found h low high q =
+overlapped : (holds : ℕ → Bool) (n i last : ℕ) (found : Bool) → n ≤ last → last ≤ i → i ≤ last + 64 → found ≡ some_past holds n (i - n) → (some_past holds last 64 || found) ≡ some_past holds n (last + 64 - n)
+overlapped holds n i last found h low high q =
     let e : last + 64 - n ≡ (last - n) + 64 = omega arith in
     let f : n + (last - n) ≡ last = omega arith in
     let g : i - n ≡ (last - n) + (i - last) = omega arith in
@@ -67,6 +67,12 @@ covered holds n i last found h low high q =
     ∙ absorbed (some_past holds (last + (i - last)) (last + 64 - i)) (some_past holds last (i - last)) (some_past holds n (last - n))
     ∙ (λ k. sym block k || some_past holds n (last - n))
     ∙ sym (ap (some_past holds n) e ∙ split holds n (last - n) 64 ∙ ap (λ (k : ℕ). some_past holds k 64 || some_past holds n (last - n)) f)
+
+-- the last block of an array
+pub covered : (holds : ℕ → Bool) (n i size : ℕ) → n + 64 ≤ size → size - 64 ≤ i → i ≤ size → (some_past holds (size - 64) 64 || some_past holds n (i - n)) ≡ some_past holds n (size - n)
+covered holds n i size h low high =
+    let end : size - 64 + 64 ≡ size = omega arith in
+    overlapped holds n i (size - 64) (some_past holds n (i - n)) (omega arith) low (omega arith) refl ∙ ap (λ (k : ℕ). some_past holds n (k - n)) end
 
 pub begun : (holds : ℕ → Bool) (n : ℕ) → false ≡ some_past holds n (n - n)
 unfolding some_past

@@ -1,6 +1,6 @@
 -- The arrays of a state have 256 places (248 of the nest, 240 of the counts of lost rises) whatever its chip, and a chip's lists are their first places. The others are clear:
 -- where something stands there, the lists are the arrays whole, and have not the chip's length.
-use Rattle.std.specs.Prelude.{ℕ, zero, suc, ◌+◌, ◌-◌, ◌≤◌, ◌≡◌, ◌⊎◌, List, ◌++◌, Bool, false, not, cond, ◌||◌, length, get_or, replicate, eqb}
+use Rattle.std.specs.Prelude.{ℕ, zero, suc, ◌+◌, ◌-◌, ◌≤◌, ◌<◌, ◌≡◌, ◌⊎◌, List, ◌++◌, Bool, false, not, cond, ◌||◌, length, get_or, replicate, eqb}
 use Rattle.flag_words.specs.Flags.{on}
 use Rattle.rules.specs.declared.Chip.{Chip}
 use Rattle.rules.specs.Chip.{flag_count, exception_count}
@@ -10,6 +10,10 @@ use Rattle.places.specs.declared.Reach.{Reach}
 unfoldable pub some_past : (ℕ → Bool) → ℕ → ℕ → Bool
 some_past holds n zero = false
 some_past holds n (suc k) = holds (n + k) || some_past holds n k
+
+-- a test by code answers as `holds` does at each place below n
+abbrev pub AnswersBelow : (ℕ → Bool → Type 0) → (ℕ → Bool) → ℕ → Type 0
+AnswersBelow post holds n = (i : ℕ) (b : Bool) → i < n → post i b → b ≡ holds i
 
 -- how many places the lists have: the chip's n, or all of them
 unfoldable pub reach : (ℕ → Bool) → ℕ → ℕ → ℕ

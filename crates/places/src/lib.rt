@@ -3,8 +3,8 @@
 // before it.
 #![tactic(auto)]
 
-ghost use Rattle.std.specs.Prelude.{◌≡◌, cond, ◌||◌, ◌-◌, ◌≤◌};
-ghost use Rattle.places.specs.Places.{some_past, nonzero, occupied, InBlocks, Blocks, reach_of};
+ghost use Rattle.std.specs.Prelude.{ℕ, Bool, ◌≡◌, cond, ◌+◌, ◌-◌, ◌^◌, ◌<◌};
+ghost use Rattle.places.specs.Places.{some_past, InBlocks, Blocks, AnswersBelow, reach_of};
 
 use rules::Chip;
 
@@ -16,119 +16,45 @@ pub struct Reach {
     pub lost: usize,
 }
 
-fn either(a: bool, b: bool) -> bool
-    ensures { result ≡ (a || b) }
-{
-    a || b
+// The arrays of a state, whatever its chip.
+#[derive(Clone, Copy)]
+pub struct Arrays<'a> {
+    pub pending: &'a [bool; 256],
+    pub active: &'a [bool; 256],
+    pub enabled: &'a [bool; 256],
+    pub level: &'a [bool; 256],
+    pub priority: &'a [u8; 256],
+    pub nest: &'a [u8; 248],
+    pub lost: &'a [u16; 240],
 }
 
-fn places_block(
-    pending: &[bool; 256],
-    active: &[bool; 256],
-    enabled: &[bool; 256],
-    level: &[bool; 256],
-    priority: &[u8; 256],
-    from: usize,
-) -> bool
-    requires { from ≤ 192 }
-    ensures { result ≡ some_past (occupied pending.now active.now enabled.now level.now priority.now) from 64 }
+fn some_in_block<F: Fn(usize) -> bool>(stands: &F, from: usize) -> bool
+    requires fits { from + 64 < 2 ^ 64 }
+    requires callable { (i : ℕ) → i < from + 64 → F.pre stands.now i }
+    ensures { (holds : ℕ → Bool) → AnswersBelow (F.post stands.now) holds (from + 64) → result ≡ some_past holds from 64 }
 {
     let mut found = false;
-    let mut k = 0;
-    while k < 64 {
-        let i = from + k;
-        let flags = either(either(pending[i], active[i]), either(enabled[i], level[i]));
-        found = either(either(flags, priority[i] != 0), found);
-        k += 1;
+    for k in 0..64 {
+        found = stands(from + k) | found;
     }
     found
 }
 
-fn places_past(
-    pending: &[bool; 256],
-    active: &[bool; 256],
-    enabled: &[bool; 256],
-    level: &[bool; 256],
-    priority: &[u8; 256],
-    n: usize,
-) -> bool
-    requires { InBlocks n 256 }
-    ensures { result ≡ some_past (occupied pending.now active.now enabled.now level.now priority.now) n (256 - n) }
+// Whether something stands at one of the places from n on.
+fn some_past<F: Fn(usize) -> bool>(stands: F, n: usize, size: usize) -> bool
+    requires blocks { InBlocks n size }
+    requires callable { (i : ℕ) → i < size → F.pre stands i }
+    ensures { (holds : ℕ → Bool) → AnswersBelow (F.post stands) holds size → result ≡ some_past holds n (size - n) }
 {
+    if n == size {
+        return false;
+    }
+    let last = size - 64;
     let mut found = false;
-    let mut i = n;
-    while i <= 192 {
-        found = either(
-            places_block(pending, active, enabled, level, priority, i),
-            found,
-        );
-        i += 64;
+    for from in (n..last).step_by(64) {
+        found = some_in_block(&stands, from) | found;
     }
-    if n <= 192 {
-        return either(
-            places_block(pending, active, enabled, level, priority, 192),
-            found,
-        );
-    }
-    found
-}
-
-fn nest_block(nest: &[u8; 248], from: usize) -> bool
-    requires { from ≤ 184 }
-    ensures { result ≡ some_past (nonzero nest.now) from 64 }
-{
-    let mut found = false;
-    let mut k = 0;
-    while k < 64 {
-        found = either(nest[from + k] != 0, found);
-        k += 1;
-    }
-    found
-}
-
-fn nest_past(nest: &[u8; 248], n: usize) -> bool
-    requires { InBlocks n 248 }
-    ensures { result ≡ some_past (nonzero nest.now) n (248 - n) }
-{
-    let mut found = false;
-    let mut i = n;
-    while i <= 184 {
-        found = either(nest_block(nest, i), found);
-        i += 64;
-    }
-    if n <= 184 {
-        return either(nest_block(nest, 184), found);
-    }
-    found
-}
-
-fn lost_block(lost: &[u16; 240], from: usize) -> bool
-    requires { from ≤ 176 }
-    ensures { result ≡ some_past (nonzero lost.now) from 64 }
-{
-    let mut found = false;
-    let mut k = 0;
-    while k < 64 {
-        found = either(lost[from + k] != 0, found);
-        k += 1;
-    }
-    found
-}
-
-fn lost_past(lost: &[u16; 240], n: usize) -> bool
-    requires { InBlocks n 240 }
-    ensures { result ≡ some_past (nonzero lost.now) n (240 - n) }
-{
-    let mut found = false;
-    let mut i = n;
-    while i <= 176 {
-        found = either(lost_block(lost, i), found);
-        i += 64;
-    }
-    if n <= 176 {
-        return either(lost_block(lost, 176), found);
-    }
-    found
+    some_in_block(&stands, last) | found
 }
 
 fn all_or(past: bool, size: usize, n: usize) -> usize
@@ -137,25 +63,28 @@ fn all_or(past: bool, size: usize, n: usize) -> usize
     if past { size } else { n }
 }
 
-pub fn reach_of(
-    chip: Chip,
-    pending: &[bool; 256],
-    active: &[bool; 256],
-    enabled: &[bool; 256],
-    level: &[bool; 256],
-    priority: &[u8; 256],
-    nest: &[u8; 248],
-    lost: &[u16; 240],
-) -> Reach
+pub fn reach_of(chip: Chip, arrays: Arrays<'_>) -> Reach
     requires { Blocks chip }
-    ensures { result ≡ reach_of chip pending.now active.now enabled.now level.now priority.now nest.now lost.now }
+    ensures { result ≡ reach_of chip arrays.entry.pending.now arrays.entry.active.now arrays.entry.enabled.now arrays.entry.level.now arrays.entry.priority.now arrays.entry.nest.now arrays.entry.lost.now }
 {
+    let Arrays {
+        pending,
+        active,
+        enabled,
+        level,
+        priority,
+        nest,
+        lost,
+    } = arrays;
     let flags = exceptions::flag_count(chip);
     let count = exceptions::exception_count(chip);
-    let places = places_past(pending, active, enabled, level, priority, flags);
-    let nested = nest_past(nest, count);
     let lines = chip.lines as usize;
-    let counted = lost_past(lost, lines);
+    let occupied = |i: usize| (pending[i] | active[i])
+        | (enabled[i] | level[i])
+        | (priority[i] != 0);
+    let places = some_past(occupied, flags, 256);
+    let nested = some_past(|i| nest[i] != 0, count, 248);
+    let counted = some_past(|i| lost[i] != 0, lines, 240);
     Reach {
         places: all_or(places, 256, flags),
         nest: all_or(nested, 248, count),

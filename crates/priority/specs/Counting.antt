@@ -1,6 +1,5 @@
 -- L is what document 01 says it is: "L, the count of group numbers, is 8 for p up to 4, then 4, 2, 1."
-use Rattle.std.specs.Prelude.{ℕ, ◌-◌, ◌≡◌, ◌↔◌, length}
-use mathlib.Core.List.Memᴰ
+use Rattle.std.specs.Prelude.{ℕ, ◌≡◌, ◌↔◌, length}
 use mathlib.Core.List.{List, Memᴰ}
 use Rattle.grouping.specs.Grouping.{group_of}
 use Rattle.priority.specs.Order.{Distinct}

@@ -1,6 +1,6 @@
 -- The execution priority is the least of what document 01 lists: one of those numbers, and at most each; the nest gives the same number. Of the eligible ones `best` answers the first by full priority, then number.
 use Prim.Native.Nat.{ℕ, zero, suc, ◌≤◌, ◌<◌}
-use Rattle.std.specs.Prelude.{◌≡◌, refl, ◌≢◌, ◌⊎◌, ◌↔◌, List, Bool, false, not, ◌&&◌, length, eqb, ℤ, pos, negsuc, ◌≤ℤ◌, ◌<ℤ◌}
+use Rattle.std.specs.Prelude.{◌≡◌, refl, ◌≢◌, ◌⊎◌, ◌↔◌, List, Bool, false, not, ◌&&◌, length, eqb, ℤ, pos, negsuc, ◌≤ℤ◌, ◌<ℤ◌, Option, Some, None}
 use Rattle.std.proofs.Math.Path.{sym, ap, subst}
 use Rattle.std.proofs.Common.{◌∙◌, eqb→eq, le→leb}
 use Rattle.std.proofs.Math.Logic.{inl, inr}
@@ -10,8 +10,6 @@ use native.Mathlib.Omega.{arith}
 use Rattle.std.proofs.Math.ListN.{get_or}
 use Rattle.std.proofs.Math.Dec.{T, eqb_refl, T_not, not_T}
 use Rattle.std.specs.Int.Signed.{lt_z, le_z_yes, lt_z_yes, lt_z_no, ≤ℤ_refl, <ℤ-≤ℤ_trans, <ℤ_irrefl}
-use Rattle.priority.specs.declared.Found.{Found}
-use Rattle.priority.specs.declared.Found.TheVariants.{At, Nothing}
 use Rattle.grouping.specs.Grouping.{group_of, grouped, full_priority, group_priority}
 use Rattle.grouping.specs.Laws.{group_rises}
 use Rattle.priority.specs.Priority.{under, masked, least_active, execution_priority, least_nested, execution_nested, is_enabled, eligible, better, best, best_pending}
@@ -28,20 +26,20 @@ group_lowest p bytes n =
 -- ---- the least of 256 and the group numbers of some exceptions
 
 module _ (p : ℕ) (bytes : List ℕ) where
-  data Among (Some : ℕ → Type 0) (z : ℤ) : Type 0 where
-    none : z ≡ pos 256 → Among Some z
-    some : (n : ℕ) → Some n → z ≡ group_priority p bytes n → Among Some z
+  data Among (Such : ℕ → Type 0) (z : ℤ) : Type 0 where
+    none : z ≡ pos 256 → Among Such z
+    some : (n : ℕ) → Such n → z ≡ group_priority p bytes n → Among Such z
 
   -- one more, where `on` holds
-  among_under : {Few Some : ℕ → Type 0} (on : Bool) (m : ℕ) (b : ℤ) → (T on → Some m) → ((n : ℕ) → Few n → Some n) → ((n : ℕ) → Some n → (T on × (n ≡ m)) ⊎ Few n) → Least (Among Few) b → Least (Among Some) (under on (group_priority p bytes m) b)
-  among_under {Few} {Some} on m b new old split h = least_same _ to from (least_under (Among Few) on (group_priority p bytes m) b h)
+  among_under : {Few Such : ℕ → Type 0} (on : Bool) (m : ℕ) (b : ℤ) → (T on → Such m) → ((n : ℕ) → Few n → Such n) → ((n : ℕ) → Such n → (T on × (n ≡ m)) ⊎ Few n) → Least (Among Few) b → Least (Among Such) (under on (group_priority p bytes m) b)
+  among_under {Few} {Such} on m b new old split h = least_same _ to from (least_under (Among Few) on (group_priority p bytes m) b h)
     where
-      to : (z : ℤ) → (T on × (z ≡ group_priority p bytes m)) ⊎ Among Few z → Among Some z
+      to : (z : ℤ) → (T on × (z ≡ group_priority p bytes m)) ⊎ Among Few z → Among Such z
       to z (inl q) = some m (new q.0) q.1
       to z (inr (none e)) = none e
       to z (inr (some n f e)) = some n (old n f) e
 
-      from : (z : ℤ) → Among Some z → (T on × (z ≡ group_priority p bytes m)) ⊎ Among Few z
+      from : (z : ℤ) → Among Such z → (T on × (z ≡ group_priority p bytes m)) ⊎ Among Few z
       from z (none e) = inr (none e)
       from z (some n s e) = go (split n s)
         where
@@ -49,10 +47,10 @@ module _ (p : ℕ) (bytes : List ℕ) where
           go (inl q) = inl (q.0, e ∙ ap (group_priority p bytes) q.1)
           go (inr f) = inr (some n f e)
 
-  among_none : {Some : ℕ → Type 0} → ((n : ℕ) → Some n → ⊥) → Least (Among Some) (pos 256)
-  among_none {Some} empty = record { one = none refl; most = each }
+  among_none : {Such : ℕ → Type 0} → ((n : ℕ) → Such n → ⊥) → Least (Among Such) (pos 256)
+  among_none {Such} empty = record { one = none refl; most = each }
     where
-      each : (z : ℤ) → Among Some z → pos 256 ≤ℤ z
+      each : (z : ℤ) → Among Such z → pos 256 ≤ℤ z
       each z (none e) = subst (λ y. pos 256 ≤ℤ y) (sym e) (≤ℤ_refl (pos 256))
       each z (some n s e) = absurd (empty n s)
 
@@ -183,12 +181,12 @@ pub record IsBest (test : ℕ → Bool) (key : ℕ → ℤ) (k n : ℕ) : Type 0
   pub passes : T (test n)
   pub first : (m : ℕ) → m < k → T (test m) → m ≢ n → Ahead key n m
 
-abbrev pub Finds : (ℕ → Bool) → (ℕ → ℤ) → ℕ → Found → Type 0
-Finds test key k Nothing = (m : ℕ) → m < k → T (test m) → ⊥
-Finds test key k (At n) = IsBest test key k n
+abbrev pub Finds : (ℕ → Bool) → (ℕ → ℤ) → ℕ → Option ℕ → Type 0
+Finds test key k None = (m : ℕ) → m < k → T (test m) → ⊥
+Finds test key k (Some n) = IsBest test key k n
 
 module _ (test : ℕ → Bool) (key : ℕ → ℤ) where
-  step_none : (k : ℕ) (t : Bool) → test k ≡ t → Finds test key k Nothing → Finds test key (suc k) (better t key k Nothing)
+  step_none : (k : ℕ) (t : Bool) → test k ≡ t → Finds test key k None → Finds test key (suc k) (better t key k None)
   step_none k true e h = record { below = le_refl (suc k); passes = is_true e; first = λ m l p ne. below_suc m k l (λ q. absurd (ne q)) (λ l'. absurd (h m l' p)) }
   step_none k false e h = λ m l p. below_suc m k l (λ q. is_false e (subst (λ x. T (test x)) q p)) (λ l'. h m l' p)
 
@@ -218,13 +216,13 @@ module _ (test : ℕ → Bool) (key : ℕ → ℤ) where
           pick true e = subst (λ x. key k <ℤ key x) (sym (eqb→eq m n (is_true e))) l
           pick false e = through m (h.first m b q (λ e'. is_false e (subst (λ x. T (eqb m x)) e' (eqb_refl m))))
 
-  step_some : (k n : ℕ) (t : Bool) → test k ≡ t → IsBest test key k n → Finds test key (suc k) (better t key k (At n))
+  step_some : (k n : ℕ) (t : Bool) → test k ≡ t → IsBest test key k n → Finds test key (suc k) (better t key k (Some n))
   step_some k n false e h = keep_old k n h (λ p. absurd (is_false e p))
   step_some k n true e h = by_cases (λ o. Finds test key (suc k) o) (lt_z (key k) (key n)) (λ l. take_new k n h (is_true e) (lt_z_yes l)) (λ l. keep_old k n h (λ p. lt_z_no l))
 
-  step_best : (k : ℕ) (o : Found) → Finds test key k o → Finds test key (suc k) (better (test k) key k o)
-  step_best k Nothing h = step_none k (test k) refl h
-  step_best k (At n) h = step_some k n (test k) refl h
+  step_best : (k : ℕ) (o : Option ℕ) → Finds test key k o → Finds test key (suc k) (better (test k) key k o)
+  step_best k None h = step_none k (test k) refl h
+  step_best k (Some n) h = step_some k n (test k) refl h
 
   pub best_finds : (k : ℕ) → Finds test key k (best test key k)
   unfolding best
@@ -232,11 +230,11 @@ module _ (test : ℕ → Bool) (key : ℕ → ℤ) where
   best_finds (suc k) = step_best k (best test key k) (best_finds k)
 
 -- another search with such an outcome finds the same
-pub finds_unique : (test : ℕ → Bool) (key : ℕ → ℤ) (k : ℕ) (o p : Found) → Finds test key k o → Finds test key k p → o ≡ p
-finds_unique test key k Nothing Nothing h g = refl
-finds_unique test key k Nothing (At m) h g = absurd (h m g.below g.passes)
-finds_unique test key k (At n) Nothing h g = absurd (g n h.below h.passes)
-finds_unique test key k (At n) (At m) h g = ap At (go (eqb n m) refl)
+pub finds_unique : (test : ℕ → Bool) (key : ℕ → ℤ) (k : ℕ) (o p : Option ℕ) → Finds test key k o → Finds test key k p → o ≡ p
+finds_unique test key k None None h g = refl
+finds_unique test key k None (Some m) h g = absurd (h m g.below g.passes)
+finds_unique test key k (Some n) None h g = absurd (g n h.below h.passes)
+finds_unique test key k (Some n) (Some m) h g = ap Some (go (eqb n m) refl)
   where
     clash : Ahead key n m → Ahead key m n → n ≡ m
     clash (inl a) (inl b) = absurd (<ℤ_irrefl (<ℤ-≤ℤ_trans a (<ℤ-≤ℤ b)))
@@ -278,18 +276,18 @@ module _ (p : ℕ) (bytes : List ℕ) (pending enabled : List Bool) (limit : ℤ
   unfolding best_pending
   pending_finds = best_finds (eligible p bytes pending enabled limit) (full_priority bytes) (length pending)
 
-  pub pending_best : (n : ℕ) → best_pending p bytes pending enabled limit ≡ At n → Best n
+  pub pending_best : (n : ℕ) → best_pending p bytes pending enabled limit ≡ Some n → Best n
   pending_best n e =
       let h : IsBest (eligible p bytes pending enabled limit) (full_priority bytes) (length pending) n = subst (Finds (eligible p bytes pending enabled limit) (full_priority bytes) (length pending)) e pending_finds in
       record { able = eligible_parts n h.passes; first = λ m a. h.first m (flag_below pending m a.pends) (eligible_whole m a) }
 
   -- nothing is answered exactly when nothing is eligible
-  pub pending_nothing : (best_pending p bytes pending enabled limit ≡ Nothing) ↔ ((n : ℕ) → Eligible n → ⊥)
+  pub pending_nothing : (best_pending p bytes pending enabled limit ≡ None) ↔ ((n : ℕ) → Eligible n → ⊥)
   pending_nothing = (to, from (best_pending p bytes pending enabled limit) pending_finds)
     where
-      to : best_pending p bytes pending enabled limit ≡ Nothing → (n : ℕ) → Eligible n → ⊥
+      to : best_pending p bytes pending enabled limit ≡ None → (n : ℕ) → Eligible n → ⊥
       to e n a = subst (Finds (eligible p bytes pending enabled limit) (full_priority bytes) (length pending)) e pending_finds n (flag_below pending n a.pends) (eligible_whole n a)
 
-      from : (o : Found) → Finds (eligible p bytes pending enabled limit) (full_priority bytes) (length pending) o → ((n : ℕ) → Eligible n → ⊥) → o ≡ Nothing
-      from Nothing h empty = refl
-      from (At n) h empty = absurd (empty n (eligible_parts n h.passes))
+      from : (o : Option ℕ) → Finds (eligible p bytes pending enabled limit) (full_priority bytes) (length pending) o → ((n : ℕ) → Eligible n → ⊥) → o ≡ None
+      from None h empty = refl
+      from (Some n) h empty = absurd (empty n (eligible_parts n h.passes))

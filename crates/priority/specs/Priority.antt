@@ -1,9 +1,7 @@
 -- Document 01, "Priorities" and the choice of "Entry": the execution priority and the one to enter, over any number of exceptions.
-use Rattle.std.specs.Prelude.{ℕ, zero, suc, List, Bool, false, not, cond, ◌&&◌, ◌||◌, length, get_or, eqb, ℤ, pos, negsuc}
+use Rattle.std.specs.Prelude.{ℕ, zero, suc, List, Bool, false, not, cond, ◌&&◌, ◌||◌, length, get_or, eqb, ℤ, pos, negsuc, Option, Some, None}
 use Rattle.std.specs.Int.Signed.{lt_z}
 use Rattle.grouping.specs.Grouping.{group_of, full_priority, group_priority}
-use Rattle.priority.specs.declared.Found.{Found}
-use Rattle.priority.specs.declared.Found.TheVariants.{At, Nothing}
 
 -- ---- the execution priority
 
@@ -54,15 +52,15 @@ eligible p bytes pending enabled limit n =
     get_or pending n false && is_enabled enabled n && lt_z (group_priority p bytes n) limit
 
 -- the better of the one found so far and n, which comes after it and counts where `able` holds
-abbrev pub better : Bool → (ℕ → ℤ) → ℕ → Found → Found
-better able key n Nothing = cond able (At n) Nothing
-better able key n (At m) = cond (able && lt_z (key n) (key m)) (At n) (At m)
+abbrev pub better : Bool → (ℕ → ℤ) → ℕ → Option ℕ → Option ℕ
+better able key n None = cond able (Some n) None
+better able key n (Some m) = cond (able && lt_z (key n) (key m)) (Some n) (Some m)
 
 -- "the one of least full priority (fixed, or the kept byte), then least number": of the numbers below k that pass the test, one of least key, and of these the least
-unfoldable pub best : (ℕ → Bool) → (ℕ → ℤ) → ℕ → Found
-best test key zero = Nothing
+unfoldable pub best : (ℕ → Bool) → (ℕ → ℤ) → ℕ → Option ℕ
+best test key zero = None
 best test key (suc k) = better (test k) key k (best test key k)
 
-unfoldable pub best_pending : ℕ → List ℕ → List Bool → List Bool → ℤ → Found
+unfoldable pub best_pending : ℕ → List ℕ → List Bool → List Bool → ℤ → Option ℕ
 best_pending p bytes pending enabled limit =
     best (eligible p bytes pending enabled limit) (full_priority bytes) (length pending)

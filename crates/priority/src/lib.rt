@@ -1,54 +1,27 @@
 #![tactic(auto)]
 
-ghost use Rattle.std.specs.Prelude.{◌≡◌, true, ◌&&◌, ◌<◌, ◌≤◌, length};
+ghost use Rattle.std.specs.Prelude.{◌≡◌, true, ◌&&◌, ◌≤◌, length};
 ghost use Rattle.std.specs.Int.Signed.{lt_z};
 ghost use Rattle.grouping.specs.Grouping.{grouped, full_priority, group_priority};
-ghost use Rattle.priority.specs.Priority.{lesser, under, masked, least_active, execution_priority, least_nested, execution_nested, always_enabled, is_enabled, better, best_pending};
+ghost use Rattle.priority.specs.Priority.{under, masked, least_active, execution_priority, least_nested, execution_nested, always_enabled, is_enabled, better, best_pending};
 
 use grouping::{full_priority, group_priority, grouped, signed};
-
-#[derive(Clone, Copy)]
-pub enum Found {
-    At(usize),
-    Nothing,
-}
-
-fn lesser_of(a: i32, b: i32) -> i32
-    ensures { result ≡ lesser a b }
-{
-    if a < b {
-        return a;
-    }
-    b
-}
 
 fn under(on: bool, a: i32, b: i32) -> i32
     ensures { result ≡ under on a b }
 {
-    if on {
-        return lesser_of(a, b);
-    }
-    b
+    if on { b.min(a) } else { b }
 }
 
-// The least group number so far, with n's if it is active: one test for a number that is not.
-fn under_active(least: i32, active: bool, priority: &[u8], n: usize, p: u32) -> i32
-    ensures { result ≡ under active (group_priority p priority.now n) least }
-{
-    if active {
-        return lesser_of(group_priority(priority, n, p), least);
-    }
-    least
-}
-
+#[tactic(auto, unfolding(crate::specs::Priority::least_active))]
 fn least_active(active: &[bool], priority: &[u8], p: u32) -> i32
     ensures { result ≡ least_active p priority.now active.now (length active.now) }
 {
     let mut least: i32 = 256;
-    let mut n = 0;
-    while n < active.len() {
-        least = under_active(least, active[n], priority, n, p);
-        n += 1;
+    for (n, flag) in active.iter().enumerate() {
+        if *flag {
+            least = least.min(group_priority(priority, n, p));
+        }
     }
     least
 }
@@ -60,6 +33,7 @@ fn masked(least: i32, p: u32, basepri: u8, primask: bool, faultmask: bool) -> i3
     under(faultmask, -1, under(primask, 0, base))
 }
 
+#[tactic(auto, unfolding(crate::specs::Priority::execution_priority))]
 pub fn execution_priority(
     active: &[bool],
     priority: &[u8],
@@ -79,26 +53,20 @@ pub fn execution_priority(
     )
 }
 
-fn wide(x: u8) -> usize
-    ensures { result ≡ x }
-{
-    x as usize
-}
-
+#[tactic(auto, unfolding(crate::specs::Priority::least_nested))]
 fn least_nested(nest: &[u8], depth: usize, priority: &[u8], p: u32) -> i32
     requires { depth ≤ length nest.now }
     ensures { result ≡ least_nested p priority.now nest.now depth }
 {
     let mut least: i32 = 256;
-    let mut i = 0;
-    while i < depth {
-        least = lesser_of(group_priority(priority, wide(nest[i]), p), least);
-        i += 1;
+    for n in &nest[..depth] {
+        least = least.min(group_priority(priority, usize::from(*n), p));
     }
     least
 }
 
 // The same from the nest, in as many steps as it has entries. A sound state's nest has room for its depth.
+#[tactic(auto, unfolding(crate::specs::Priority::execution_nested))]
 pub fn execution_nested(
     nest: &[u8],
     depth: usize,
@@ -123,87 +91,64 @@ pub fn execution_nested(
 fn always_enabled(n: usize) -> bool
     ensures { result ≡ always_enabled n }
 {
-    match n {
-        2 => true,
-        3 => true,
-        11 => true,
-        14 => true,
-        15 => true,
-        _ => false,
-    }
+    matches!(n, 2 | 3 | 11 | 14 | 15)
 }
 
 // The flags are those of 4, 5, 6 and the lines; past their end nothing is enabled.
 pub fn is_enabled(enabled: &[bool], n: usize) -> bool
     ensures { result ≡ is_enabled enabled.now n }
 {
-    if always_enabled(n) {
-        return true;
-    }
-    if n < enabled.len() {
-        return enabled[n];
-    }
-    false
+    always_enabled(n) || enabled.get(n).copied().unwrap_or(false)
 }
 
 // Enabled, and of a group number below the limit.
 fn is_able(enabled: &[bool], priority: &[u8], n: usize, p: u32, limit: i32) -> bool
     ensures { result ≡ (is_enabled enabled.now n && lt_z (group_priority p priority.now n) limit) }
 {
-    if is_enabled(enabled, n) {
-        return group_priority(priority, n, p) < limit;
-    }
-    false
+    is_enabled(enabled, n) && group_priority(priority, n, p) < limit
 }
 
 // The earlier one stays, unless n has a lower full priority.
-fn better(found: Found, priority: &[u8], n: usize) -> Found
+fn better(found: Option<usize>, priority: &[u8], n: usize) -> Option<usize>
     ensures { result ≡ better true (full_priority priority.now) n found }
 {
     match found {
-        Found::Nothing => Found::At(n),
-        Found::At(m) => if full_priority(priority, n) < full_priority(priority, m) {
-            Found::At(n)
-        } else {
-            Found::At(m)
-        },
+        Some(m) if full_priority(priority, m) <= full_priority(priority, n) => Some(m),
+        _ => Some(n),
     }
 }
 
 // One step of the search. A number that is not pending costs one test.
 fn consider(
-    found: Found,
+    found: Option<usize>,
     pending: bool,
     enabled: &[bool],
     priority: &[u8],
     n: usize,
     p: u32,
     limit: i32,
-) -> Found
+) -> Option<usize>
     ensures { result ≡ better (pending && is_enabled enabled.now n && lt_z (group_priority p priority.now n) limit) (full_priority priority.now) n found }
 {
-    if pending {
-        if is_able(enabled, priority, n, p, limit) {
-            return better(found, priority, n);
-        }
+    if pending && is_able(enabled, priority, n, p, limit) {
+        return better(found, priority, n);
     }
     found
 }
 
+#[tactic(auto, unfolding(crate::specs::Priority::best, crate::specs::Priority::best_pending))]
 pub fn best_pending(
     pending: &[bool],
     enabled: &[bool],
     priority: &[u8],
     p: u32,
     limit: i32,
-) -> Found
+) -> Option<usize>
     ensures { result ≡ best_pending p priority.now pending.now enabled.now limit }
 {
-    let mut found = Found::Nothing;
-    let mut n = 0;
-    while n < pending.len() {
-        found = consider(found, pending[n], enabled, priority, n, p, limit);
-        n += 1;
+    let mut found = None;
+    for (n, flag) in pending.iter().enumerate() {
+        found = consider(found, *flag, enabled, priority, n, p, limit);
     }
     found
 }

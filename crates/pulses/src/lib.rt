@@ -1,22 +1,24 @@
-// The pulses that a line loses, on lent lists, for every chip: rises that find it pending (document 02, E1).
+// The pulses that a line loses, on a lent state, for every chip: rises that find it pending (document 02, E1).
 #![tactic(auto)]
 
-ghost use Rattle.std.specs.Prelude.{◌≡◌, suc, min, get_or};
-ghost use Rattle.rules.specs.Model.{Model, with_pending, with_level, with_lost, with_core};
-ghost use Rattle.rules.specs.Lent.{answer};
+ghost use Rattle.std.specs.Prelude.{◌≡◌, suc, min};
+ghost use Rattle.rules.specs.Model.{with_lost};
+ghost use Rattle.rules.specs.Lent.{SameLoan, answer, view};
 ghost use Rattle.rules.specs.Events.{loses_rise, one_more, counted, lost_call};
 
 use nvic::flags::flag_at;
-use parts::{accepted, refused};
-use rules::{Chip, Core, Outcome};
+use nvic::lists::at_or;
+use parts::accepted;
+use refusals::Refusal;
+use rules::{Chip, Lent, Outcome};
 
 // Whether the line of exception n loses a rise by going to a level.
-fn loses_rise(pending: &[bool], level: &[bool], n: usize, high: bool) -> bool
-    ensures { (m : Model) → result ≡ loses_rise n high (with_level level.now (with_pending pending.now m)) }
+fn loses_rise(state: &Lent<'_>, n: usize, high: bool) -> bool
+    ensures { result ≡ loses_rise n high (view state.now) }
 {
     if high {
-        if flag_at(pending, n) {
-            return !flag_at(level, n);
+        if flag_at(state.pending, n) {
+            return !flag_at(state.level, n);
         }
     }
     false
@@ -26,10 +28,7 @@ fn loses_rise(pending: &[bool], level: &[bool], n: usize, high: bool) -> bool
 fn raised(n: u16) -> u16
     ensures { result ≡ min (suc n) 65535 }
 {
-    if n == 65535 {
-        return n;
-    }
-    n + 1
+    n.saturating_add(1)
 }
 
 fn one_more(lost: &mut [u16], line: usize)
@@ -41,28 +40,20 @@ fn one_more(lost: &mut [u16], line: usize)
 }
 
 // Before a line goes to a level: a rise that finds it pending counts.
-pub fn count(pending: &[bool], level: &[bool], lost: &mut [u16], line: u32, high: bool)
-    ensures { (m : Model) → lost.new ≡ counted line high (with_lost lost.old (with_level level.now (with_pending pending.now m))) }
+pub fn count(state: &mut Lent<'_>, line: u32, high: bool)
+    ensures counts { view state.new ≡ with_lost (counted line high (view state.old)) (view state.old) }
+    ensures loan { SameLoan state.old state.new }
 {
-    if loses_rise(pending, level, 16 + line as usize, high) {
-        one_more(lost, line as usize);
+    if loses_rise(state, 16 + line as usize, high) {
+        one_more(state.lost, line as usize);
     }
 }
 
-fn count_at(lost: &[u16], line: usize) -> u32
-    ensures { result ≡ get_or lost.now line 0 }
-{
-    if line < lost.len() {
-        return lost[line] as u32;
-    }
-    0
-}
-
-pub fn lost(chip: Chip, lost: &[u16], core: Core, line: u32) -> Outcome
-    ensures { (m : Model) → answer result (with_lost lost.now m) ≡ lost_call chip (with_core core (with_lost lost.now m)) line }
+pub fn lost(chip: Chip, state: &Lent<'_>, line: u32) -> Outcome
+    ensures { answer result (view state.now) ≡ lost_call chip (view state.now) line }
 {
     if chip.lines <= line {
-        return refused(core, 6);
+        return Err(Refusal::OutOfRange);
     }
-    accepted(core, count_at(lost, line as usize))
+    Ok(accepted(at_or(state.lost, line as usize, 0) as u32))
 }

@@ -1,64 +1,66 @@
-// Exception return on lent lists, for every chip.
+// Exception return on a lent state, for every chip.
 #![tactic(auto)]
 
 ghost use Rattle.std.specs.Prelude.{◌≡◌, true, cond, ◌<◌, set};
-ghost use Rattle.rules.specs.Model.{Model, with_pending, with_active, with_level, with_nest, with_core};
-ghost use Rattle.rules.specs.Lent.{answer};
+ghost use Rattle.rules.specs.Lent.{SameLoan, answer, view};
 ghost use Rattle.flag_words.specs.Flags.{on};
+ghost use Rattle.rules.specs.Model.{down, top};
 ghost use Rattle.rules.specs.Nesting.{returned, return_call};
 
-use nvic::bytes::store_byte;
-use nvic::flags::{flag_at, store_flag};
-use parts::{accepted, refused};
-use rules::{Core, Outcome};
+use nvic::flags::flag_at;
+use nvic::lists::store;
+use parts::accepted;
+use refusals::Refusal;
+use rules::{Lent, Outcome};
+
+// The newest of the nest when so many are nested.
+fn newest(state: &Lent<'_>, depth: usize) -> u32
+    ensures { result ≡ top (down state.now.nest.now depth) }
+{
+    nvic::nest::top_of(state.nest, depth)
+}
+
+fn is_high(state: &Lent<'_>, n: usize) -> bool
+    ensures { result ≡ on state.now.level.now n }
+{
+    flag_at(state.level, n)
+}
 
 // A line that is high is pending again.
-fn repend(pending: &mut [bool], level: &[bool], n: usize)
-    ensures { pending.new ≡ cond (on level.now n) (set pending.old n true) pending.old }
+fn repend(pending: &mut [bool], n: usize, high: bool)
+    ensures { pending.new ≡ cond high (set pending.old n true) pending.old }
 {
-    if flag_at(level, n) {
-        store_flag(pending, n, true);
+    if high {
+        store(pending, n, true);
     }
 }
 
 // Removes the top of a nest that is not empty.
-fn leave(
-    pending: &mut [bool],
-    active: &mut [bool],
-    level: &[bool],
-    nest: &mut [u8],
-    mut core: Core,
-    value: u32,
-) -> Core
-    requires { 0 < core.depth }
-    ensures { (m : Model) → with_core result (with_nest nest.new (with_level level.now (with_active active.new (with_pending pending.new m)))) ≡ returned value (with_core core (with_nest nest.old (with_level level.now (with_active active.old (with_pending pending.old m))))) }
+fn leave(state: &mut Lent<'_>, value: u32)
+    requires { 0 < state.old.core.depth }
+    ensures left { view state.new ≡ returned value (view state.old) }
+    ensures loan { SameLoan state.old state.new }
 {
-    let top = nvic::nest::top_of(nest, core.depth) as usize;
-    repend(pending, level, top);
-    store_flag(active, top, false);
+    let core = state.core;
     let depth = core.depth - 1;
-    store_byte(nest, depth, 0);
-    core.depth = depth;
-    let masks = core.masks;
-    let left = masks::returned_masks(masks, top, value);
-    core.masks = left;
-    core
+    let top = newest(state, core.depth) as usize;
+    let high = is_high(state, top);
+    repend(state.pending, top, high);
+    store(state.active, top, false);
+    store(state.nest, depth, 0);
+    state.core.depth = depth;
+    state.core.masks = masks::returned_masks(core.masks, top, value);
 }
 
-pub fn return_(
-    pending: &mut [bool],
-    active: &mut [bool],
-    level: &[bool],
-    nest: &mut [u8],
-    core: Core,
-    value: u32,
-) -> Outcome
-    ensures { (m : Model) → answer result (with_nest nest.new (with_level level.now (with_active active.new (with_pending pending.new m)))) ≡ return_call (with_core core (with_nest nest.old (with_level level.now (with_active active.old (with_pending pending.old m))))) value }
+pub fn return_(state: &mut Lent<'_>, value: u32) -> Outcome
+    ensures answer { answer result (view state.new) ≡ return_call (view state.old) value }
+    ensures loan { SameLoan state.old state.new }
 {
-    if nvic::nest::link_fits(core.depth, value) {
-        let newest = nvic::nest::top_of(nest, core.depth - 1);
-        let next = leave(pending, active, level, nest, core, value);
-        return accepted(next, newest);
+    let depth = state.core.depth;
+    if nvic::nest::link_fits(depth, value) {
+        let next = newest(state, depth - 1);
+        leave(state, value);
+        return Ok(accepted(next));
     }
-    refused(core, 9)
+    Err(Refusal::ReturnValue)
 }

@@ -1,6 +1,5 @@
 -- Laws of these definitions that the code of every chip and the third demand both use.
 use Rattle.std.specs.Prelude.{ℕ, Bool, true, ◌&&◌}
-use mathlib.Core.List.Memᴰ
 use mathlib.Core.List.{List, [], ◌∷◌}
 
 unfoldable pub all : (ℕ → Bool) → List ℕ → Bool

@@ -1,7 +1,6 @@
 -- What a word written to a set or clear register does to each of its lines, and what an unchanged level does: once over the line's number.
-use Rattle.std.specs.Prelude.{ℕ, ◌+◌, ◌-◌, ◌*◌, ◌≤◌, ◌<◌, ◌≡◌, List, Bool, length}
+use Rattle.std.specs.Prelude.{ℕ, ◌+◌, ◌*◌, ◌≤◌, ◌<◌, ◌≡◌, List, Bool, length}
 use Rattle.flag_words.specs.Flags.{on}
-use Rattle.rules.specs.Registers.{written}
 
 -- ---- the flags of the lines 32 k to 32 k + 31
 

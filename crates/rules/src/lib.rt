@@ -7,17 +7,18 @@ ghost use Rattle.rules.specs.Chip.{chip_of, is_armv6m, fits};
 
 use bools::both;
 use mpu::{Edition, Mpu, MpuRegister};
+use refusals::Refusal;
 use systick::Timer;
 
 // The architecture of the core: document 01's, or that of the Cortex-M0 (document 02, E10), which has less.
-#[derive(Clone, Copy)]
+#[derive(Clone, Copy, PartialEq, Eq, Debug)]
 pub enum Profile {
     Armv7m,
     Armv6m,
 }
 
 // A chip: its profile, which guard it has (ARMv6-M has none, whatever stands there), how many lines, and how many bits of a priority byte it keeps.
-#[derive(Clone, Copy)]
+#[derive(Clone, Copy, PartialEq, Eq, Debug)]
 pub struct Chip {
     pub profile: Profile,
     pub guard: Edition,
@@ -26,7 +27,7 @@ pub struct Chip {
 }
 
 // The chips that there are: a Cortex-M3 with 55 lines (document 01) or with 240 (document 02, E4), the Cortex-M0 with 32 (E10).
-#[derive(Clone, Copy)]
+#[derive(Clone, Copy, PartialEq, Eq, Debug)]
 pub enum Part {
     Lines55,
     Lines240,
@@ -36,7 +37,7 @@ pub enum Part {
 // How a caller names a chip: `chip_of` of the rules. `bits` is how many bits of a priority byte are kept (CMSIS calls it __NVIC_PRIO_BITS): any
 // number may stand there, and outside 3 to 8 every call refuses it by 17. `guard` is the edition of its MPU. The Cortex-M0 keeps two bits and has no
 // MPU, whatever stands there.
-#[derive(Clone, Copy)]
+#[derive(Clone, Copy, PartialEq, Eq, Debug)]
 pub struct Setup {
     pub part: Part,
     pub bits: u32,
@@ -96,7 +97,7 @@ impl Setup {
 }
 
 // Where a flag may stand: at any exception, at those with an enable bit of their own, at the lines.
-#[derive(Clone, Copy)]
+#[derive(Clone, Copy, PartialEq, Eq, Debug)]
 pub enum Place {
     Exception,
     Enable,
@@ -104,7 +105,7 @@ pub enum Place {
 }
 
 // The masks and CONTROL. `npriv` is CONTROL bit 0, `spsel` bit 1.
-#[derive(Clone, Copy)]
+#[derive(Clone, Copy, PartialEq, Eq, Debug)]
 pub struct Masks {
     pub primask: bool,
     pub faultmask: bool,
@@ -114,7 +115,7 @@ pub struct Masks {
 }
 
 // The registers of the system block that are plain storage.
-#[derive(Clone, Copy)]
+#[derive(Clone, Copy, PartialEq, Eq, Debug)]
 pub struct System {
     pub vtable: u32,
     pub sysctrl: u32,
@@ -125,8 +126,9 @@ pub struct System {
     pub faultaddr: u32,
 }
 
-// The parts of a state that hold no array of the chip's size: the same struct for every chip.
-#[derive(Clone, Copy)]
+// The parts of a state that hold no array of the chip's size: the same struct for every chip. `depth` stands beside the nest, an array of fixed
+// size: there is no heap, and `unused_sound` speaks of the places past it.
+#[derive(Clone, Copy, PartialEq, Eq, Debug)]
 pub struct Core {
     pub depth: usize,
     pub group: u32,
@@ -136,18 +138,31 @@ pub struct Core {
     pub system: System,
 }
 
-// What a call answers beside the lists that it was lent: the refusal or 0, the value, the vector address and link value of an
-// entry, and the other parts as it leaves them.
-#[derive(Clone, Copy)]
-pub struct Outcome {
-    pub refusal: u32,
-    pub value: u32,
-    pub vector: u32,
-    pub link: u32,
+// A state whose lists are lent: flags and priority bytes at exception numbers, the nest with the newest last, and the rises that each line lost.
+#[derive(Drop)]
+pub struct Lent<'a> {
+    pub pending: &'a mut [bool],
+    pub active: &'a mut [bool],
+    pub enabled: &'a mut [bool],
+    pub level: &'a mut [bool],
+    pub priority: &'a mut [u8],
+    pub nest: &'a mut [u8],
+    pub lost: &'a mut [u16],
     pub core: Core,
 }
 
-#[derive(Clone, Copy)]
+// What a call answers that is not refused: the value, and of an entry the vector address and the link value.
+#[derive(Clone, Copy, PartialEq, Eq, Debug)]
+pub struct Accepted {
+    pub value: u32,
+    pub vector: u32,
+    pub link: u32,
+}
+
+// An answer, beside the state that it leaves.
+pub type Outcome = Result<Accepted, Refusal>;
+
+#[derive(Clone, Copy, PartialEq, Eq, Debug)]
 pub enum TimerRegister {
     Stctrl,
     Streload,
@@ -155,7 +170,7 @@ pub enum TimerRegister {
 }
 
 // The registers that show a flag of each of 32 lines.
-#[derive(Clone, Copy)]
+#[derive(Clone, Copy, PartialEq, Eq, Debug)]
 pub enum Bank {
     EnableSet,
     EnableClear,
@@ -164,7 +179,7 @@ pub enum Bank {
     Active,
 }
 
-#[derive(Clone, Copy)]
+#[derive(Clone, Copy, PartialEq, Eq, Debug)]
 pub enum SystemRegister {
     Ictype,
     Cpuid,
@@ -182,8 +197,8 @@ pub enum SystemRegister {
 }
 
 // A register, by the part of the model that it shows. Flags and priority bytes carry the number of the first exception shown. A constant reads as
-// its number and ignores writes.
-#[derive(Clone, Copy)]
+// its number and ignores writes. Missing is no register, and a case here since the maps of specs/ (`register_at`, `width_refusal`) answer it.
+#[derive(Clone, Copy, PartialEq, Eq, Debug)]
 pub enum Register {
     Missing,
     Timer(TimerRegister),

@@ -8,8 +8,7 @@ use Rattle.rules.specs.Model.{fresh}
 use Rattle.pieces.specs.Joined as lent
 use Rattle.pieces.proofs.Joined.{pieces_joined}
 use Rattle.model.specs.View.{model, state}
-use Rattle.run.specs.declared.Progress.{Progress}
-use Rattle.run.specs.Progress.{course}
+use Rattle.run.specs.Progress.{Progress, course}
 use Rattle.run.specs.Joined.{Continued, stop, call, CodeJoined}
 
 called : {script : List ℕ} {p r : Progress} {outs pieces : List (List ℕ)} → Continued script p outs pieces r → lent.Resumed chip55 script (model p.state) (course p) outs pieces (model r.state) (course r)

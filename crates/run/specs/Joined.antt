@@ -8,8 +8,7 @@ use Rattle.rules.specs.Step.{run_of}
 use Rattle.text.specs.Text.{text_of}
 use Rattle.pieces.specs.Joined.{joined, Roomy}
 use Rattle.model.specs.View.{state}
-use Rattle.run.specs.declared.Progress.{Progress}
-use Rattle.run.specs.Progress.{started, rest_of, Ran}
+use Rattle.run.specs.Progress.{Progress, started, rest_of, Ran}
 
 -- They were lent `outs` and wrote `pieces`; the last handed r back.
 pub data Continued (script : List ℕ) : Progress → List (List ℕ) → List (List ℕ) → Progress → Type 0 where

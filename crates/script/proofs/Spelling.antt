@@ -4,12 +4,13 @@ use mathlib.Core.Path.{◌≡◌, refl, ap, ◌∙◌}
 use mathlib.Core.List.{List, [], ◌∷◌, ◌++◌, append-nil}
 use mathlib.Core.Bool.{Bool, true, false}
 use native.Mathlib.Omega.{arith}
+use Rattle.std.specs.Prelude.{Ok, Err}
 use lib.ListN.{length, set, take, length-append}
 use lib.Seq.{sets}
 use lib.Dec.{ltb}
 use borrow.Author.Tests.{le-leb, lt-leb}
+use Rattle.refusals.specs.declared.Refusal.TheVariants as refusal
 use Rattle.script.specs.declared.Event.{Event}
-use Rattle.script.specs.declared.Written.TheVariants.{Next, Refused}
 use Rattle.script.specs.declared.writing.Spelled.{Spelled}
 use Rattle.script.specs.Event.{kind_of, arguments_of, arity}
 use Rattle.script.specs.EventLaws.{arity_few}
@@ -64,11 +65,11 @@ event_small n =
 -- what is written and answered, by where the event ends
 
 module _ (out : List ℕ) (at : ℕ) (e : Event) where
-  pub too_long : min (length out) 65536 < at + length (event_bytes e) → (Refused 15 ≡ write_event out at e) × (out ≡ bytes_after out at e)
+  pub too_long : min (length out) 65536 < at + length (event_bytes e) → (Err refusal.Length ≡ write_event out at e) × (out ≡ bytes_after out at e)
   unfolding write_event bytes_after fits
   too_long h = simp (lt-leb (at + length (event_bytes e)) (min (length out) 65536) h) (refl, refl)
 
-  pub room : at + length (event_bytes e) ≤ min (length out) 65536 → (Next (at + length (event_bytes e)) ≡ write_event out at e) × (sets out at (event_bytes e) ≡ bytes_after out at e)
+  pub room : at + length (event_bytes e) ≤ min (length out) 65536 → (Ok (at + length (event_bytes e)) ≡ write_event out at e) × (sets out at (event_bytes e) ≡ bytes_after out at e)
   unfolding write_event bytes_after fits
   room h = simp (le-leb (at + length (event_bytes e)) (min (length out) 65536) h) (refl, refl)
 

@@ -1,5 +1,5 @@
 -- What is written reads back as the same event in normal form, and an event that is read has one spelling.
-use Rattle.std.specs.Prelude.{ℕ, zero, suc, ◌+◌, ◌^◌, ◌≤◌, ◌<◌, min, refl, List, [], ◌∷◌, ◌++◌, Bool, true, false, cond, length, get_or, take, drop, eqb, ltb}
+use Rattle.std.specs.Prelude.{ℕ, zero, suc, ◌+◌, ◌^◌, ◌≤◌, ◌<◌, min, refl, List, [], ◌∷◌, ◌++◌, Option, Some, None, Result, Ok, Err, Bool, true, false, cond, length, get_or, take, drop, eqb, ltb}
 use Rattle.std.proofs.Math.Path.{◌≡◌}
 use Rattle.std.proofs.Common.{sym, ap, subst, ◌∙◌, append_assoc, length-append, take-append-drop, length-take-le, le-ltb, ltb-false, leb-true, le-leb, eqb-true}
 use native.Mathlib.Omega.{arith}
@@ -8,11 +8,8 @@ use Rattle.std.proofs.Math.Seq.{length-sets}
 use Rattle.script.specs.declared.AccessKind.TheVariants as kind
 use Rattle.script.specs.declared.Event.{Event}
 use Rattle.script.specs.declared.Event.TheVariants.{Read, Write, Line, Nmi, Tick, Fault, Svc, Special, Entry, Return, Access, Lost, Skip}
-use Rattle.script.specs.declared.ReadEvent.{ReadEvent}
-use Rattle.script.specs.declared.ReadEvent.TheVariants.{Found, Refused}
-use Rattle.script.specs.declared.Written.TheVariants as written
-use Rattle.numbers.specs.declared.Number.{Number}
-use Rattle.numbers.specs.declared.Number.TheVariants.{Value, Bad}
+use Rattle.refusals.specs.declared.Refusal.{Refusal}
+use Rattle.refusals.specs.declared.Refusal.TheVariants as refusal
 use Rattle.script.specs.Event.{access_number, access_kind, kind_of, arguments_of, arity, normal, Normal}
 use Rattle.numbers.specs.Number.{number_bytes, number_at}
 use Rattle.numbers.specs.NumberLaws.{groups_some, Bytes, Spells, spells_append, spells_nothing, spells_inside, number_written, number_read}
@@ -41,13 +38,13 @@ numbers_written (n ∷ ns) pre post w =
     simp (append_assoc, length-append) at (numbers_written ns (pre ++ number_bytes n) post w.1) in
     let sum : length pre + length (number_bytes n) + length (numbers_bytes ns) ≡ length pre + length (number_bytes n ++ numbers_bytes ns) = simp length-append (omega arith) in
     subst (λ (b : List ℕ). numbers_at b (length pre) (suc (length ns)) ≡ numbers (n ∷ ns) (length pre + length (number_bytes n ++ numbers_bytes ns))) (sym same)
-    (ap (λ (r : Number). then r (λ next. numbers_at all next (length ns))) one ∙ ap (before n) (ih ∙ ap (numbers ns) sum))
+    (ap (λ (r : Option (ℕ × ℕ)). then r (λ next. numbers_at all next (length ns))) one ∙ ap (before n) (ih ∙ ap (numbers ns) sum))
 
 -- an event as numbers: its kind is one, has as many arguments as the event, and with them makes the event again
 record Numbered (e : Event) (next : ℕ) : Type 0 where
   word : kind_of e < 2 ^ 32
   count : arity (kind_of e) ≡ length (arguments_of e)
-  again : with_arguments (kind_of e) (numbers (arguments_of e) next) ≡ Found (normal e) next
+  again : with_arguments (kind_of e) (numbers (arguments_of e) next) ≡ Ok (normal e, next)
 
 numbered : (e : Event) (next : ℕ) → Numbered e next
 unfolding arity with_arguments event_of kind_of arguments_of normal
@@ -65,7 +62,7 @@ numbered (Access k width address) next = record { word = omega arith; count = re
 numbered (Lost line) next = record { word = omega arith; count = refl; again = refl }
 numbered (Skip ticks) next = record { word = omega arith; count = refl; again = refl }
 
-pub event_written : (e : Event) (pre post : List ℕ) → InRange e → length (pre ++ (event_bytes e ++ post)) ≤ 65536 → read_event (pre ++ (event_bytes e ++ post)) (length pre) ≡ Found (normal e) (length pre + length (event_bytes e))
+pub event_written : (e : Event) (pre post : List ℕ) → InRange e → length (pre ++ (event_bytes e ++ post)) ≤ 65536 → read_event (pre ++ (event_bytes e ++ post)) (length pre) ≡ Ok (normal e, length pre + length (event_bytes e))
 unfolding read_event with_kind event_bytes numbers_bytes
 event_written e pre post w h =
     let k = number_bytes (kind_of e) in
@@ -93,7 +90,7 @@ numbers_read zero bytes at ns next small e =
 numbers_read (suc count) bytes at ns next small e =
     first (number_at bytes at) refl (λ mid ms. numbers_read count bytes mid ms next small)
   where
-    rest : (n mid : ℕ) → number_at bytes at ≡ Value n mid → (x : Numbers) → numbers_at bytes mid count ≡ x → before n x ≡ numbers ns next → ((ms : List ℕ) → numbers_at bytes mid count ≡ numbers ms next → NumbersRead bytes mid count ms next) → NumbersRead bytes at (suc count) ns next
+    rest : (n mid : ℕ) → number_at bytes at ≡ Some (n, mid) → (x : Numbers) → numbers_at bytes mid count ≡ x → before n x ≡ numbers ns next → ((ms : List ℕ) → numbers_at bytes mid count ≡ numbers ms next → NumbersRead bytes mid count ms next) → NumbersRead bytes at (suc count) ns next
     rest n mid p broken q d ih = let z : ◌≡◌ {A = ℕ} 0 1 = cc in let x : ⊥ = omega arith in absurd x
     rest n mid p (numbers ms end) q d ih =
         let a : n ∷ ms ≡ ns = cc in
@@ -107,9 +104,9 @@ numbers_read (suc count) bytes at ns next small e =
           many = ap suc r.many;
         })
 
-    first : (r : Number) → number_at bytes at ≡ r → ((mid : ℕ) (ms : List ℕ) → numbers_at bytes mid count ≡ numbers ms next → NumbersRead bytes mid count ms next) → NumbersRead bytes at (suc count) ns next
-    first Bad p ih = let d = simp p at e in let z : ◌≡◌ {A = ℕ} 0 1 = cc in let x : ⊥ = omega arith in absurd x
-    first (Value n mid) p ih = rest n mid p (numbers_at bytes mid count) refl (simp p at e) (ih mid)
+    first : (r : Option (ℕ × ℕ)) → number_at bytes at ≡ r → ((mid : ℕ) (ms : List ℕ) → numbers_at bytes mid count ≡ numbers ms next → NumbersRead bytes mid count ms next) → NumbersRead bytes at (suc count) ns next
+    first None p ih = let d = simp p at e in let z : ◌≡◌ {A = ℕ} 0 1 = cc in let x : ⊥ = omega arith in absurd x
+    first (Some (n, mid)) p ih = rest n mid p (numbers_at bytes mid count) refl (simp p at e) (ih mid)
 
 access_number_lem : (n : ℕ) → access_number (access_kind n) ≡ n
 unfolding access_number access_kind
@@ -127,16 +124,20 @@ record Made (number a b c next : ℕ) (e : Event) (end : ℕ) : Type 0 where
   normal : Normal e
   ends : end ≡ next
 
+-- an event that is found, and the offset after it, are one event and one offset
+pub found_same : (e f : Event) (n m : ℕ) → ◌≡◌ {A = Result (Event × ℕ) Refusal} (Ok (e, n)) (Ok (f, m)) → (e ≡ f) × (n ≡ m)
+found_same e f n m d = let p : ◌≡◌ {A = Event × ℕ} (e, n) (f, m) = cc in (ap (λ (x : Event × ℕ). x.0) p, ap (λ (x : Event × ℕ). x.1) p)
+
 module _ (number a b c next : ℕ) where
-  abbrev Makes : ReadEvent → Type 0
-  Makes r = (e : Event) (end : ℕ) → r ≡ Found e end → Made number a b c next e end
+  abbrev Makes : Result (Event × ℕ) Refusal → Type 0
+  Makes r = (e : Event) (end : ℕ) → r ≡ Ok (e, end) → Made number a b c next e end
 
-  makes : (e : Event) → kind_of e ∷ arguments_of e ≡ number ∷ take (arity number) (a ∷ (b ∷ (c ∷ []))) → Normal e → Makes (Found e next)
+  makes : (e : Event) → kind_of e ∷ arguments_of e ≡ number ∷ take (arity number) (a ∷ (b ∷ (c ∷ []))) → Normal e → Makes (Ok (e, next))
   makes e s q f end r =
-      let g : e ≡ f = cc in
-      rw (← g) (record { same = s; normal = q; ends = cc })
+      let g = found_same e f next end r in
+      rw (← g.0) (record { same = s; normal = q; ends = sym g.1 })
 
-  step : (k : ℕ) (x y : ReadEvent) → (number ≡ k → Makes x) → Makes y → Makes (cond (eqb number k) x y)
+  step : (k : ℕ) (x y : Result (Event × ℕ) Refusal) → (number ≡ k → Makes x) → Makes y → Makes (cond (eqb number k) x y)
   step k x y f g = cases (eqb number k) refl
     where
       cases : (t : Bool) → eqb number k ≡ t → Makes (cond t x y)
@@ -146,23 +147,23 @@ module _ (number a b c next : ℕ) where
   made : Makes (event_of number a b c next)
   unfolding event_of kind_of arguments_of arity normal
   made =
-      step 1 (Found (Read a b) next) _ (λ q. makes (Read a b) (simp q) refl)
-      (step 2 (Found (Write a b c) next) _ (λ q. makes (Write a b c) (simp q) refl)
-      (step 3 (Found (Line a b) next) _ (λ q. makes (Line a b) (simp q) refl)
-      (step 4 (Found Nmi next) _ (λ q. makes Nmi (simp q) refl)
-      (step 5 (Found Tick next) _ (λ q. makes Tick (simp q) refl)
-      (step 6 (Found (Fault a b) next) _ (λ q. makes (Fault a b) (simp q) refl)
-      (step 7 (Found Svc next) _ (λ q. makes Svc (simp q) refl)
-      (step 8 (Found (Special a b) next) _ (λ q. makes (Special a b) (simp q) refl)
-      (step 9 (Found Entry next) _ (λ q. makes Entry (simp q) refl)
-      (step 10 (Found (Return a) next) _ (λ q. makes (Return a) (simp q) refl)
-      (step 11 (Found (Access (access_kind a) b c) next) _
+      step 1 (Ok (Read a b, next)) _ (λ q. makes (Read a b) (simp q) refl)
+      (step 2 (Ok (Write a b c, next)) _ (λ q. makes (Write a b c) (simp q) refl)
+      (step 3 (Ok (Line a b, next)) _ (λ q. makes (Line a b) (simp q) refl)
+      (step 4 (Ok (Nmi, next)) _ (λ q. makes Nmi (simp q) refl)
+      (step 5 (Ok (Tick, next)) _ (λ q. makes Tick (simp q) refl)
+      (step 6 (Ok (Fault a b, next)) _ (λ q. makes (Fault a b) (simp q) refl)
+      (step 7 (Ok (Svc, next)) _ (λ q. makes Svc (simp q) refl)
+      (step 8 (Ok (Special a b, next)) _ (λ q. makes (Special a b) (simp q) refl)
+      (step 9 (Ok (Entry, next)) _ (λ q. makes Entry (simp q) refl)
+      (step 10 (Ok (Return a, next)) _ (λ q. makes (Return a) (simp q) refl)
+      (step 11 (Ok (Access (access_kind a) b c, next)) _
       (λ q. makes (Access (access_kind a) b c) (simp (q, access_number_lem)) (simp access_number_lem))
-      (step 12 (Found (Lost a) next) _ (λ q. makes (Lost a) (simp q) refl)
-      (step 13 (Found (Skip a) next) _ (λ q. makes (Skip a) (simp q) refl)
+      (step 12 (Ok (Lost a, next)) _ (λ q. makes (Lost a) (simp q) refl)
+      (step 13 (Ok (Skip a, next)) _ (λ q. makes (Skip a) (simp q) refl)
       unknown))))))))))))
     where
-      unknown : Makes (Refused 14)
+      unknown : Makes (Err refusal.Kind)
       unknown e end r = let z : ◌≡◌ {A = ℕ} 0 1 = cc in let x : ⊥ = omega arith in absurd x
 
 pub arity_few : (kind : ℕ) → arity kind ≤ 3
@@ -200,7 +201,7 @@ pub event_some : (e : Event) → 1 ≤ length (event_bytes e)
 unfolding event_bytes numbers_bytes number_bytes
 event_some e = rw length-append (omega (arith, groups_some 4 (kind_of e)))
 
-read_parts : (bytes : List ℕ) (at number mid : ℕ) (x : Numbers) (e : Event) (next : ℕ) → Bytes bytes → length bytes ≤ 65536 → number_at bytes at ≡ Value number mid → numbers_at bytes mid (arity number) ≡ x → with_arguments number x ≡ Found e next → EventRead bytes at e next
+read_parts : (bytes : List ℕ) (at number mid : ℕ) (x : Numbers) (e : Event) (next : ℕ) → Bytes bytes → length bytes ≤ 65536 → number_at bytes at ≡ Some (number, mid) → numbers_at bytes mid (arity number) ≡ x → with_arguments number x ≡ Ok (e, next) → EventRead bytes at e next
 unfolding with_arguments event_bytes numbers_bytes
 read_parts bytes at number mid broken e next small h p q d = let z : ◌≡◌ {A = ℕ} 0 1 = cc in let x : ⊥ = omega arith in absurd x
 read_parts bytes at number mid (numbers ns end) e next small h p q d =
@@ -222,13 +223,13 @@ read_parts bytes at number mid (numbers ns end) e next small h p q d =
       inside = omega (arith, spells_inside bytes at next (event_bytes e) some spelled);
     }
 
-pub event_read : (bytes : List ℕ) (at : ℕ) (e : Event) (next : ℕ) → Bytes bytes → read_event bytes at ≡ Found e next → EventRead bytes at e next
+pub event_read : (bytes : List ℕ) (at : ℕ) (e : Event) (next : ℕ) → Bytes bytes → read_event bytes at ≡ Ok (e, next) → EventRead bytes at e next
 unfolding read_event with_kind
 event_read bytes at e next small d = size (ltb 65536 (length bytes)) refl
   where
-    kind : length bytes ≤ 65536 → (r : Number) → number_at bytes at ≡ r → with_kind bytes r ≡ Found e next → EventRead bytes at e next
-    kind h Bad p q = let z : ◌≡◌ {A = ℕ} 0 1 = cc in let x : ⊥ = omega arith in absurd x
-    kind h (Value number mid) p q = read_parts bytes at number mid (numbers_at bytes mid (arity number)) e next small h p refl q
+    kind : length bytes ≤ 65536 → (r : Option (ℕ × ℕ)) → number_at bytes at ≡ r → with_kind bytes r ≡ Ok (e, next) → EventRead bytes at e next
+    kind h None p q = let z : ◌≡◌ {A = ℕ} 0 1 = cc in let x : ⊥ = omega arith in absurd x
+    kind h (Some (number, mid)) p q = read_parts bytes at number mid (numbers_at bytes mid (arity number)) e next small h p refl q
 
     size : (b : Bool) → ltb 65536 (length bytes) ≡ b → EventRead bytes at e next
     size true p = let f = simp p at d in let z : ◌≡◌ {A = ℕ} 0 1 = cc in let x : ⊥ = omega arith in absurd x
@@ -245,11 +246,11 @@ unfolding fits
 fits_room out at e p = leb-true (at + length (event_bytes e)) (min (length out) 65536) p
 
 -- what `write_event` leaves reads back
-pub written_read : (out : List ℕ) (at : ℕ) (e : Event) (next : ℕ) → length out ≤ 65536 → InRange e → write_event out at e ≡ written.Next next → read_event (bytes_after out at e) at ≡ Found (normal e) next
+pub written_read : (out : List ℕ) (at : ℕ) (e : Event) (next : ℕ) → length out ≤ 65536 → InRange e → write_event out at e ≡ Ok next → read_event (bytes_after out at e) at ≡ Ok (normal e, next)
 unfolding write_event bytes_after
 written_read out at e next h w d = cases (fits out at e) refl
   where
-    cases : (b : Bool) → fits out at e ≡ b → read_event (bytes_after out at e) at ≡ Found (normal e) next
+    cases : (b : Bool) → fits out at e ≡ b → read_event (bytes_after out at e) at ≡ Ok (normal e, next)
     cases false p = let f = simp p at d in let z : ◌≡◌ {A = ℕ} 0 1 = cc in let x : ⊥ = omega arith in absurd x
     cases true p =
         let f = simp p at d in
@@ -258,10 +259,10 @@ written_read out at e next h w d = cases (fits out at e) refl
         let s = stored out at (event_bytes e) (omega arith) in
         let l : length (take at out) ≡ at = length-take-le at out (omega arith) in
         let r = event_written e (take at out) (drop (at + length (event_bytes e)) out) w (omega (arith, ap length s, length-sets out at (event_bytes e))) in
-        simp (p, s) (rw l at r ∙ ap (Found (normal e)) n)
+        simp (p, s) (rw l at r ∙ ap (λ (k : ℕ). Ok (normal e, k)) n)
 
 -- writing an event where it was read changes nothing
-pub read_written : (bytes : List ℕ) (at : ℕ) (e : Event) (next : ℕ) → Bytes bytes → read_event bytes at ≡ Found e next → (write_event bytes at e ≡ written.Next next) × (bytes_after bytes at e ≡ bytes)
+pub read_written : (bytes : List ℕ) (at : ℕ) (e : Event) (next : ℕ) → Bytes bytes → read_event bytes at ≡ Ok (e, next) → (write_event bytes at e ≡ Ok next) × (bytes_after bytes at e ≡ bytes)
 unfolding write_event bytes_after fits
 read_written bytes at e next small d =
     let r = event_read bytes at e next small d in
@@ -269,4 +270,4 @@ read_written bytes at e next small d =
     let i = r.inside in
     let b = stored bytes at (event_bytes e) (omega arith) in
     let same = b ∙ ap (λ (l : List ℕ). take at bytes ++ l) (rw a at (sym r.spelled.here)) ∙ take-append-drop at bytes in
-    simp (le-leb (at + length (event_bytes e)) (min (length bytes) 65536) (omega arith)) (ap written.Next (sym a), same)
+    simp (le-leb (at + length (event_bytes e)) (min (length bytes) 65536) (omega arith)) (ap Ok (sym a), same)

@@ -1,8 +1,7 @@
 -- Document 01's script is its six events; numbers at the edges.
-use Rattle.std.specs.Prelude.{ℕ, ◌≡◌, refl, List, [], ◌∷◌}
+use Rattle.std.specs.Prelude.{ℕ, ◌≡◌, refl, List, [], ◌∷◌, Some, None}
 use Rattle.script.specs.declared.Event.{Event}
 use Rattle.script.specs.declared.Event.TheVariants.{Write, Line, Entry, Return}
-use Rattle.numbers.specs.declared.Number.TheVariants.{Value, Bad}
 use Rattle.script.specs.Event.{kind_of, arguments_of, arity}
 use Rattle.numbers.specs.Number.{groups, number_bytes, joined, groups_at, number_at}
 use Rattle.script.specs.Reading.{before, then, numbers_at, event_of, with_arguments, with_kind, read_event}
@@ -24,14 +23,14 @@ written01 : bytes_of events01 ≡ script01
 unfolding script01 events01 bytes_of event_bytes numbers_bytes kind_of arguments_of number_bytes groups
 written01 = refl
 
-largest : number_at (0xFF ∷ 0xFF ∷ 0xFF ∷ 0xFF ∷ 0x0F ∷ []) 0 ≡ Value 0xFFFFFFFF 5
+largest : number_at (0xFF ∷ 0xFF ∷ 0xFF ∷ 0xFF ∷ 0x0F ∷ []) 0 ≡ Some (0xFFFFFFFF, 5)
 unfolding number_at groups_at joined
 largest = refl
 
-too_large : number_at (0x80 ∷ 0x80 ∷ 0x80 ∷ 0x80 ∷ 0x10 ∷ []) 0 ≡ Bad
+too_large : number_at (0x80 ∷ 0x80 ∷ 0x80 ∷ 0x80 ∷ 0x10 ∷ []) 0 ≡ None
 unfolding number_at groups_at joined
 too_large = refl
 
-not_shortest : number_at (0x80 ∷ 0x00 ∷ []) 0 ≡ Bad
+not_shortest : number_at (0x80 ∷ 0x00 ∷ []) 0 ≡ None
 unfolding number_at groups_at joined
 not_shortest = refl

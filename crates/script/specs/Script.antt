@@ -1,8 +1,8 @@
 -- A whole script (document 01, "Scripts" and refusal 15).
-use Rattle.std.specs.Prelude.{ℕ, zero, suc, List, [], ◌∷◌, ◌++◌, cond, length, ltb}
+use Rattle.std.specs.Prelude.{ℕ, zero, suc, List, [], ◌∷◌, ◌++◌, Result, Ok, Err, cond, length, ltb}
+use Rattle.refusals.specs.declared.Refusal.{Refusal}
+use Rattle.refusals.specs.Refusals.{number_of}
 use Rattle.script.specs.declared.Event.{Event}
-use Rattle.script.specs.declared.ReadEvent.{ReadEvent}
-use Rattle.script.specs.declared.ReadEvent.TheVariants.{Found, Refused}
 use Rattle.script.specs.Reading.{read_event}
 use Rattle.script.specs.Writing.{event_bytes}
 
@@ -20,9 +20,9 @@ abbrev pub whole : List Event → Script
 whole es = record { events = es; end = ended }
 
 -- an event before the rest of its script, which starts after it
-unfoldable pub followed : ℕ → ReadEvent → (ℕ → Script) → Script
-followed at (Found e next) rest = record { events = e ∷ (rest next).events; end = (rest next).end }
-followed at (Refused number) rest = record { events = []; end = broken_by number at }
+unfoldable pub followed : ℕ → Result (Event × ℕ) Refusal → (ℕ → Script) → Script
+followed at (Ok (e, next)) rest = record { events = e ∷ (rest next).events; end = (rest next).end }
+followed at (Err r) rest = record { events = []; end = broken_by (number_of r) at }
 
 -- the script from `at` on, of at most `count` events
 unfoldable pub script_from : List ℕ → ℕ → ℕ → Script

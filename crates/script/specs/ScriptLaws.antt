@@ -1,11 +1,11 @@
 -- A script and its events are worth the same: a list of events is what its own script reads as, and a script that reads whole is
 -- the script of its events.
-use Rattle.std.specs.Prelude.{ℕ, zero, suc, ◌+◌, ◌≤◌, ◌≡◌, refl, List, [], ◌∷◌, ◌++◌, map, Bool, true, false, cond, length, ltb}
+use Rattle.std.specs.Prelude.{ℕ, zero, suc, ◌+◌, ◌≤◌, ◌≡◌, refl, List, [], ◌∷◌, ◌++◌, map, Result, Ok, Err, Bool, true, false, cond, length, ltb}
 use Rattle.std.proofs.Common.{sym, ap, subst, ◌∙◌, append_assoc, append-nil, arith, length-append, lt-ltb, le-ltb, ltb-false}
 use Rattle.std.proofs.Math.Seq.{drop-length}
+use Rattle.refusals.specs.declared.Refusal.{Refusal}
+use Rattle.refusals.specs.Refusals.{number_of}
 use Rattle.script.specs.declared.Event.{Event}
-use Rattle.script.specs.declared.ReadEvent.{ReadEvent}
-use Rattle.script.specs.declared.ReadEvent.TheVariants.{Found, Refused}
 use Rattle.script.specs.Event.{normal, Normal}
 use Rattle.script.specs.EventLaws.{InRange, event_some, event_written, event_read}
 use Rattle.numbers.specs.NumberLaws.{Bytes, Spells, spells_append, spells_nothing}
@@ -63,7 +63,7 @@ pub record ScriptRead (bytes : List ℕ) (at : ℕ) (s : Script) : Type 0 where
   pub spelled : Spells bytes at (bytes_of s.events) (stop_at bytes s.end)
   pub in_range : Each InRange s.events
   pub normal : Each Normal s.events
-  pub refused : (number stop : ℕ) → s.end ≡ broken_by number stop → read_event bytes stop ≡ Refused number
+  pub refused : (number stop : ℕ) → s.end ≡ broken_by number stop → (r : Refusal) × ((read_event bytes stop ≡ Err r) × (number_of r ≡ number))
 
 read_end : (bytes : List ℕ) (at : ℕ) → at ≡ length bytes → ScriptRead bytes at (whole [])
 unfolding bytes_of Each stop_at
@@ -80,14 +80,14 @@ read_from zero bytes at small h k = read_end bytes at (omega arith)
 read_from (suc count) bytes at small h k =
     more (ltb at (length bytes)) refl (λ next. read_from count bytes next small)
   where
-    one : (r : ReadEvent) → read_event bytes at ≡ r → ((next : ℕ) → next ≤ length bytes → length bytes ≤ next + count → ScriptRead bytes next (script_from bytes next count)) → ScriptRead bytes at (followed at r (λ next. script_from bytes next count))
-    one (Refused number) p ih = record {
+    one : (r : Result (Event × ℕ) Refusal) → read_event bytes at ≡ r → ((next : ℕ) → next ≤ length bytes → length bytes ≤ next + count → ScriptRead bytes next (script_from bytes next count)) → ScriptRead bytes at (followed at r (λ next. script_from bytes next count))
+    one (Err r) p ih = record {
       spelled = spells_nothing bytes at;
       in_range = tt;
       normal = tt;
-      refused = λ n stop q. let a : number ≡ n = cc in let b : at ≡ stop = cc in rw (← a, ← b) p;
+      refused = λ n stop q. let a : number_of r ≡ n = cc in let b : at ≡ stop = cc in (r, (rw (← b) p, a));
     }
-    one (Found e next) p ih =
+    one (Ok (e, next)) p ih =
         let r = event_read bytes at e next small p in
         let f = r.forward in
         let i = r.inside in

@@ -1,9 +1,9 @@
 -- One event written (document 01, "Scripts" and refusal 15).
-use Rattle.std.specs.Prelude.{ℕ, ◌+◌, min, List, [], ◌∷◌, ◌++◌, Bool, cond, length, leb}
+use Rattle.std.specs.Prelude.{ℕ, ◌+◌, min, List, [], ◌∷◌, ◌++◌, Result, Ok, Err, Bool, cond, length, leb}
 use Rattle.std.proofs.lemmas.List.Edits.{sets}
 use Rattle.script.specs.declared.Event.{Event}
-use Rattle.script.specs.declared.Written.{Written}
-use Rattle.script.specs.declared.Written.TheVariants.{Next, Refused}
+use Rattle.refusals.specs.declared.Refusal.{Refusal}
+use Rattle.refusals.specs.declared.Refusal.TheVariants as refusal
 use Rattle.script.specs.Event.{kind_of, arguments_of}
 use Rattle.numbers.specs.Number.{number_bytes}
 
@@ -20,8 +20,8 @@ unfoldable pub fits : List ℕ → ℕ → Event → Bool
 fits out at e = leb (at + length (event_bytes e)) (min (length out) 65536)
 
 -- "answers the next offset"
-unfoldable pub write_event : List ℕ → ℕ → Event → Written
-write_event out at e = cond (fits out at e) (Next (at + length (event_bytes e))) (Refused 15)
+unfoldable pub write_event : List ℕ → ℕ → Event → Result ℕ Refusal
+write_event out at e = cond (fits out at e) (Ok (at + length (event_bytes e))) (Err refusal.Length)
 
 -- "puts one event into a lent slice from a given offset, all other bytes staying"
 unfoldable pub bytes_after : List ℕ → ℕ → Event → List ℕ

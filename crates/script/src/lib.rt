@@ -37,43 +37,36 @@ pub enum Event {
     Skip(u32),
 }
 
-// An event and the offset after it, or the number of the refusal.
-#[derive(Clone, Copy)]
-pub enum ReadEvent {
-    Found(Event, usize),
-    Refused(u32),
-}
+impl From<AccessKind> for u32 {
+    ghost from_gives = { λ kind result. result ≡ access_number kind };
 
-// The offset after what was written, or the number of the refusal.
-#[derive(Clone, Copy)]
-pub enum Written {
-    Next(usize),
-    Refused(u32),
-}
-
-pub fn access_number(kind: AccessKind) -> u32
-    ensures { result ≡ access_number kind }
-{
-    match kind {
-        AccessKind::Read => 0,
-        AccessKind::Write => 1,
-        AccessKind::Fetch => 2,
-        AccessKind::Other(n) => n,
+    #[tactic(auto, unfolding(crate::specs::Event::access_number))]
+    fn from(kind: AccessKind) -> u32 {
+        match kind {
+            AccessKind::Read => 0,
+            AccessKind::Write => 1,
+            AccessKind::Fetch => 2,
+            AccessKind::Other(n) => n,
+        }
     }
 }
 
-pub fn access_kind(n: u32) -> AccessKind
-    ensures { result ≡ access_kind n }
-{
-    match n {
-        0 => AccessKind::Read,
-        1 => AccessKind::Write,
-        2 => AccessKind::Fetch,
-        _ => AccessKind::Other(n),
+impl From<u32> for AccessKind {
+    ghost from_gives = { λ n result. result ≡ access_kind n };
+
+    #[tactic(auto, unfolding(crate::specs::Event::access_kind))]
+    fn from(n: u32) -> AccessKind {
+        match n {
+            0 => AccessKind::Read,
+            1 => AccessKind::Write,
+            2 => AccessKind::Fetch,
+            _ => AccessKind::Other(n),
+        }
     }
 }
 
-// How many arguments a kind has; a number that is no kind has none.
+// How many arguments a kind has; a number that is no kind has none. An enum of the kinds would be `Event` without its arguments.
+#[tactic(auto, unfolding(crate::specs::Event::arity))]
 fn arity(kind: u32) -> u32
     ensures { result ≡ arity kind }
 {

@@ -6,13 +6,15 @@ ghost use Rattle.script.specs.Event.{kind_of, arguments_of};
 ghost use Rattle.script.specs.Steps.{bytes_if, numbers_of};
 ghost use Rattle.script.specs.Writing.{numbers_bytes, write_event, bytes_after};
 
-use crate::{Event, Written, access_number};
+use crate::Event;
 use numbers::{size, write_groups};
+use refusals::Refusal;
 
 // The kind of an event and three arguments, 0 where its kind has fewer.
 #[derive(Clone, Copy)]
 struct Spelled(u32, u32, u32, u32);
 
+#[tactic(auto, unfolding(crate::specs::Steps::numbers_of, crate::specs::Event::kind_of, crate::specs::Event::arguments_of, crate::specs::Event::arity))]
 fn numbers_of(e: Event) -> Spelled
     ensures { numbers_of result ≡ kind_of e ∷ arguments_of e }
 {
@@ -27,7 +29,7 @@ fn numbers_of(e: Event) -> Spelled
         Event::Special(which, value) => Spelled(8, which, value, 0),
         Event::Entry => Spelled(9, 0, 0, 0),
         Event::Return(value) => Spelled(10, value, 0, 0),
-        Event::Access(kind, width, address) => Spelled(11, access_number(kind), width, address),
+        Event::Access(kind, width, address) => Spelled(11, u32::from(kind), width, address),
         Event::Lost(line) => Spelled(12, line, 0, 0),
         Event::Skip(count) => Spelled(13, count, 0, 0),
     }
@@ -76,23 +78,23 @@ fn put_all(out: &mut [u8], at: usize, n: Spelled)
     put_if(out, after_b, n.3, 2 < count);
 }
 
-// Writes an event from an offset on.
-pub fn write_event(out: &mut [u8], at: usize, e: Event) -> Written
+// Writes an event from an offset on, and answers the offset after it.
+pub fn write_event(out: &mut [u8], at: usize, e: Event) -> Result<usize, Refusal>
     ensures answer { result ≡ write_event out.old at e }
     ensures bytes { out.new ≡ bytes_after out.old at e }
     ensures numbers { written_answer result ≡ written_answer (write_event out.old at e) }
 {
     if 65536 < at {
-        return Written::Refused(15);
+        return Err(Refusal::Length);
     }
     let n = numbers_of(e);
     let end = at + event_size(n);
     if 65536 < end {
-        return Written::Refused(15);
+        return Err(Refusal::Length);
     }
     if out.len() < end {
-        return Written::Refused(15);
+        return Err(Refusal::Length);
     }
     put_all(out, at, n);
-    Written::Next(end)
+    Ok(end)
 }

@@ -1,8 +1,8 @@
 // Scripts at their edges: each line of `stdout` was worked out by hand from document 01.
 #![tactic(auto)]
 
-use numbers::Number;
-use script::{AccessKind, Event, ReadEvent, Written};
+use refusals::Refusal;
+use script::{AccessKind, Event};
 
 const STDOUT_FILENO: i32 = 1;
 
@@ -15,20 +15,20 @@ fn number(n: u64) {
     io::print_decimal(STDOUT_FILENO, n);
 }
 
-fn refused(r: u32) {
+fn refused(r: Refusal) {
     text(b"refused");
-    number(r as u64);
+    number(u32::from(r) as u64);
 }
 
 // A number and the offset after it, or its refusal.
 fn show_number(bytes: &[u8], at: usize) {
     match numbers::read_number(bytes, at) {
-        Number::Value(n, next) => {
+        Some((n, next)) => {
             text(b"value");
             number(n as u64);
             number(next as u64);
         }
-        Number::Bad => refused(13),
+        None => refused(Refusal::Number),
     }
     text(b"\n");
 }
@@ -48,7 +48,7 @@ fn show_access(kind: AccessKind, width: u32, address: u32) {
         AccessKind::Fetch => text(b" fetch"),
         AccessKind::Other(_) => text(b" other"),
     }
-    show_numbers(11, script::access_number(kind), width, address);
+    show_numbers(11, u32::from(kind), width, address);
 }
 
 fn show(e: Event) {
@@ -72,14 +72,14 @@ fn show(e: Event) {
 // An event and the offset after it, or the refusal; answers the next offset, or the end.
 fn show_event(bytes: &[u8], at: usize) -> usize {
     match script::read_event(bytes, at) {
-        ReadEvent::Found(e, next) => {
+        Ok((e, next)) => {
             text(b"event");
             show(e);
             number(next as u64);
             text(b"\n");
             next
         }
-        ReadEvent::Refused(r) => {
+        Err(r) => {
             refused(r);
             text(b"\n");
             bytes.len()
@@ -89,32 +89,28 @@ fn show_event(bytes: &[u8], at: usize) -> usize {
 
 fn show_script(bytes: &[u8]) {
     let mut at = 0;
-    let mut left: u32 = 20;
-    while left > 0 {
+    for _ in 0..20 {
         if at >= bytes.len() {
             return;
         }
         at = show_event(bytes, at);
-        left -= 1;
     }
 }
 
-fn show_written(w: Written) {
+fn show_written(w: Result<usize, Refusal>) {
     match w {
-        Written::Next(next) => {
+        Ok(next) => {
             text(b"next");
             number(next as u64);
         }
-        Written::Refused(r) => refused(r),
+        Err(r) => refused(r),
     }
 }
 
 fn show_bytes(bytes: &[u8]) {
     text(b" bytes");
-    let mut i = 0;
-    while i < bytes.len() {
-        number(bytes[i] as u64);
-        i += 1;
+    for b in bytes {
+        number(*b as u64);
     }
     text(b"\n");
 }

@@ -1,7 +1,6 @@
 -- What some words name.
-use Rattle.std.specs.Prelude.{ℕ, ◌≡◌, refl, List, [], ◌∷◌, Bool, true, false}
+use Rattle.std.specs.Prelude.{ℕ, ◌≡◌, refl, [], ◌∷◌, true, false}
 use Rattle.mpu.specs.declared.Edition.TheVariants.{Pmsav7, Pmsav8}
-use Rattle.rules.specs.declared.Setup.{Setup}
 use Rattle.rules.specs.declared.Part.TheVariants.{Lines55, Lines240, CortexM0}
 use Rattle.setup_words.specs.declared.Words.{Words}
 use Rattle.setup_words.specs.Words.{lines_word, number55, number240, bits_word, guard_word, pmsav7_word, pmsav8_word, core_word, m3_word, m0_word, is_same, are_digits, is_number, number_from, started, core_by, lines_by, bits_by, guard_by, paired}

@@ -1,7 +1,7 @@
 // The words after a program's name that name a setup.
 #![tactic(auto)]
 
-ghost use Rattle.std.specs.Prelude.{◌≡◌, cond, ◌-◌, ◌≤◌, length};
+ghost use Rattle.std.specs.Prelude.{◌≡◌, ◌≤◌, length};
 ghost use Rattle.setup_words.specs.Words.{is_same, is_digit, are_digits, is_number, with_digit, number_from, started, mistaken, with_lines, with_part, keeping, guarded_by, with_core, core_by, lines_by, bits_by, guard_by, paired};
 
 use mpu::Edition;
@@ -9,7 +9,8 @@ use rules::{Part, Setup};
 use std::env::FillError;
 use std::rt::Env;
 
-// The setup named so far, which words named it, and whether one of the words or values was wrong.
+// The setup named so far, which words named it, and whether one of the words or values was wrong. The flags are fields beside the setup:
+// `started` and `paired` of specs/Words.antt state them so, with a value of the setup before a word names it.
 #[derive(Clone, Copy)]
 pub struct Words {
     pub setup: Setup,
@@ -23,17 +24,7 @@ pub struct Words {
 fn same(a: &[u8], b: &[u8]) -> bool
     ensures { result ≡ is_same a.now b.now }
 {
-    if a.len() != b.len() {
-        return false;
-    }
-    let mut i = 0;
-    while i < a.len() {
-        if a[i] != b[i] {
-            return false;
-        }
-        i += 1;
-    }
-    true
+    a == b
 }
 
 // The lines named, whichever word comes first: the Cortex-M0 has its own.
@@ -41,8 +32,7 @@ fn with_lines(named: Part, part: Part) -> Part
     ensures { result ≡ with_lines named part }
 {
     match named {
-        Part::Lines55 => part,
-        Part::Lines240 => part,
+        Part::Lines55 | Part::Lines240 => part,
         Part::CortexM0 => named,
     }
 }
@@ -51,88 +41,59 @@ impl Words {
     fn mistaken(self) -> Words
         ensures { result ≡ mistaken self }
     {
-        let setup = self.setup;
         Words {
-            setup,
-            core: self.core,
-            lines: self.lines,
-            bits: self.bits,
-            guard: self.guard,
             wrong: true,
+            ..self
         }
     }
 
     fn with_part(self, part: Part) -> Words
         ensures { result ≡ with_part self part }
     {
-        let setup = self.setup;
-        let named = setup.part;
-        let guard = setup.guard;
+        let setup = Setup {
+            part: with_lines(self.setup.part, part),
+            ..self.setup
+        };
         Words {
-            setup: Setup {
-                part: with_lines(named, part),
-                bits: setup.bits,
-                guard,
-            },
-            core: self.core,
+            setup,
             lines: true,
-            bits: self.bits,
-            guard: self.guard,
-            wrong: self.wrong,
+            ..self
         }
     }
 
     fn keeping(self, bits: u32) -> Words
         ensures { result ≡ keeping self bits }
     {
-        let setup = self.setup;
-        let part = setup.part;
-        let guard = setup.guard;
+        let setup = Setup { bits, ..self.setup };
         Words {
-            setup: Setup { part, bits, guard },
-            core: self.core,
-            lines: self.lines,
+            setup,
             bits: true,
-            guard: self.guard,
-            wrong: self.wrong,
+            ..self
         }
     }
 
     fn guarded_by(self, guard: Edition) -> Words
         ensures { result ≡ guarded_by self guard }
     {
-        let setup = self.setup;
-        let part = setup.part;
+        let setup = Setup {
+            guard,
+            ..self.setup
+        };
         Words {
-            setup: Setup {
-                part,
-                bits: setup.bits,
-                guard,
-            },
-            core: self.core,
-            lines: self.lines,
-            bits: self.bits,
+            setup,
             guard: true,
-            wrong: self.wrong,
+            ..self
         }
     }
 
     fn with_core(self, part: Part) -> Words
         ensures { result ≡ with_core self part }
     {
-        let setup = self.setup;
-        let guard = setup.guard;
+        let setup = Setup { part, ..self.setup };
         Words {
-            setup: Setup {
-                part,
-                bits: setup.bits,
-                guard,
-            },
+            setup,
             core: true,
-            lines: self.lines,
-            bits: self.bits,
-            guard: self.guard,
-            wrong: self.wrong,
+            ..self
         }
     }
 }
@@ -140,109 +101,67 @@ impl Words {
 fn is_digit(b: u8) -> bool
     ensures { result ≡ is_digit b }
 {
-    if b < b'0' {
-        return false;
-    }
-    b <= b'9'
+    b'0' <= b && b <= b'9'
 }
 
 fn are_digits(bytes: &[u8]) -> bool
     ensures { result ≡ are_digits bytes.now }
 {
-    let mut i = 0;
-    while i < bytes.len() {
-        if !is_digit(bytes[i]) {
-            return false;
-        }
-        i += 1;
-    }
-    true
+    bytes.iter().all(|b| is_digit(*b))
 }
 
 fn is_number(bytes: &[u8]) -> bool
     ensures { result ≡ is_number bytes.now }
 {
-    if bytes.len() == 0 {
-        return false;
-    }
-    are_digits(bytes)
-}
-
-fn digit_of(b: u8) -> u64
-    ensures { result ≡ b - 48 }
-{
-    if b < b'0' {
-        return 0;
-    }
-    (b - b'0') as u64
+    !bytes.is_empty() && are_digits(bytes)
 }
 
 fn with_digit(n: u32, b: u8) -> u32
     ensures { result ≡ with_digit n b }
 {
-    let next = 10 * n as u64 + digit_of(b);
-    if 0xffffffff < next {
-        return 0xffffffff;
-    }
-    next as u32
+    let digit = u32::from(b.saturating_sub(b'0'));
+    n.saturating_mul(10).saturating_add(digit)
 }
 
 fn number_of(bytes: &[u8]) -> u32
     ensures { result ≡ number_from 0 bytes.now }
 {
-    let mut n = 0;
-    let mut i = 0;
-    while i < bytes.len() {
-        n = with_digit(n, bytes[i]);
-        i += 1;
-    }
-    n
+    bytes.iter().fold(0, |n, b| with_digit(n, *b))
 }
 
-// One of two values, and what the words are with each.
-fn one_of(
-    words: Words,
-    value: &[u8],
-    first: &[u8],
-    one: Words,
-    second: &[u8],
-    other: Words,
-) -> Words
-    ensures { result ≡ cond (is_same value.now first.now) one (cond (is_same value.now second.now) other (mistaken words)) }
-{
-    if same(value, first) {
-        return one;
-    }
-    if same(value, second) {
-        return other;
-    }
-    words.mistaken()
-}
-
+#[tactic(auto, unfolding(crate::specs::Words::core_by))]
 fn core_by(words: Words, value: &[u8]) -> Words
     ensures { result ≡ core_by words value.now }
 {
     if words.core {
         return words.mistaken();
     }
-    let setup = words.setup;
-    let part = setup.part;
-    let m3 = words.with_core(part);
-    let m0 = words.with_core(Part::CortexM0);
-    one_of(words, value, b"m3", m3, b"m0", m0)
+    if same(value, b"m3") {
+        return words.with_core(words.setup.part);
+    }
+    if same(value, b"m0") {
+        return words.with_core(Part::CortexM0);
+    }
+    words.mistaken()
 }
 
+#[tactic(auto, unfolding(crate::specs::Words::lines_by))]
 fn lines_by(words: Words, value: &[u8]) -> Words
     ensures { result ≡ lines_by words value.now }
 {
     if words.lines {
         return words.mistaken();
     }
-    let few = words.with_part(Part::Lines55);
-    let many = words.with_part(Part::Lines240);
-    one_of(words, value, b"55", few, b"240", many)
+    if same(value, b"55") {
+        return words.with_part(Part::Lines55);
+    }
+    if same(value, b"240") {
+        return words.with_part(Part::Lines240);
+    }
+    words.mistaken()
 }
 
+#[tactic(auto, unfolding(crate::specs::Words::bits_by))]
 fn bits_by(words: Words, value: &[u8]) -> Words
     ensures { result ≡ bits_by words value.now }
 {
@@ -255,15 +174,20 @@ fn bits_by(words: Words, value: &[u8]) -> Words
     words.mistaken()
 }
 
+#[tactic(auto, unfolding(crate::specs::Words::guard_by))]
 fn guard_by(words: Words, value: &[u8]) -> Words
     ensures { result ≡ guard_by words value.now }
 {
     if words.guard {
         return words.mistaken();
     }
-    let pmsav7 = words.guarded_by(Edition::Pmsav7);
-    let pmsav8 = words.guarded_by(Edition::Pmsav8);
-    one_of(words, value, b"pmsav7", pmsav7, b"pmsav8", pmsav8)
+    if same(value, b"pmsav7") {
+        return words.guarded_by(Edition::Pmsav7);
+    }
+    if same(value, b"pmsav8") {
+        return words.guarded_by(Edition::Pmsav8);
+    }
+    words.mistaken()
 }
 
 // Before the first word: the Cortex-M3 with 55 lines, three bits, the guard of ARMv7-M.
@@ -285,6 +209,7 @@ pub fn start() -> Words
 }
 
 // One word more, and its value.
+#[tactic(auto, unfolding(crate::specs::Words::paired))]
 pub fn pair(words: Words, word: &[u8], value: &[u8]) -> Words
     ensures { result ≡ paired words word.now value.now }
 {
@@ -310,7 +235,8 @@ pub fn argument(rt: &impl Env, i: usize, space: &mut [u8]) -> usize
     rt.arg(i, space).unwrap_or(0)
 }
 
-// How many arguments there are, the program's name among them.
+// How many arguments there are, the program's name among them. No clause says so: of `arg` an `Env` promises only that it writes no more than
+// there is room for, not which arguments there are.
 pub fn argument_count(rt: &impl Env) -> usize {
     for i in 0..usize::MAX {
         let mut space = [0u8; 1];
@@ -334,11 +260,9 @@ pub fn pair_at(rt: &impl Env, words: Words, word: usize, value: usize) -> Words 
 pub fn named(rt: &impl Env) -> Words {
     let pairs = argument_count(rt) / 2;
     let mut words = start();
-    let mut k = 0;
-    while k < pairs {
+    for k in 0..pairs {
         let word = 2 * k + 1;
         words = pair_at(rt, words, word, word + 1);
-        k += 1;
     }
     words
 }

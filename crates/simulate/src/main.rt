@@ -7,14 +7,15 @@ const STDIN_FILENO: i32 = 0;
 
 const STDOUT_FILENO: i32 = 1;
 
-// The buffer has room for a line, so each call ends the script or moves on in it.
+// The buffer has room for a line, so each call ends the script or moves on in it. A while: the script's end ends it, which is no index. The text is
+// bytes in fixed memory, which `io` writes in one call, as std's writer would. `bench` has the same loop over `run`: a trait for the two libraries'
+// functions, with a contract, would be longer.
 fn run_all(setup: Setup, script: &[u8]) {
     let mut out = io::large_buffer();
     let mut progress = any_run::start(setup);
     while !progress.ended {
         progress = any_run::run_some(script, progress, &mut out);
-        let wrote = progress.wrote;
-        io::write_all(STDOUT_FILENO, &out[..wrote]);
+        io::write_all(STDOUT_FILENO, &out[..progress.wrote]);
     }
 }
 
@@ -28,8 +29,7 @@ fn main(rt: HostRuntime) {
         );
         return;
     }
-    let setup = words.setup;
     let mut space = [0u8; 65537];
     let n = io::read_full(STDIN_FILENO, &mut space);
-    run_all(setup, &space[..n]);
+    run_all(words.setup, &space[..n]);
 }

@@ -21,13 +21,7 @@ fn is_kept(byte: u8, bits: u32) -> bool
 fn byte_sound(chip: Chip, byte: u8, n: usize) -> bool
     ensures { result ≡ (eqb (kept_byte chip.bits byte) byte && (has_byte chip n || eqb byte 0)) }
 {
-    if byte == 0 {
-        return true;
-    }
-    if is_kept(byte, chip.bits) {
-        return has_byte(chip, n);
-    }
-    false
+    byte == 0 || is_kept(byte, chip.bits) && has_byte(chip, n)
 }
 
 // The bytes of system exceptions, and of the numbers below 16 that are none.
@@ -35,12 +29,10 @@ fn low_bytes_sound(chip: Chip, priority: &[u8]) -> bool
     requires { length priority.now ≡ flag_count chip }
     ensures { result ≡ every (byte_sound chip priority.now) 16 }
 {
-    let mut n = 0;
-    while n < 16 {
+    for n in 0..16 {
         if !byte_sound(chip, priority[n], n) {
             return false;
         }
-        n += 1;
     }
     true
 }
@@ -52,10 +44,8 @@ pub fn bytes_sound(chip: Chip, priority: &[u8]) -> bool
     ensures { result ≡ every (byte_sound chip priority.now) (flag_count chip) }
 {
     let mut ok = low_bytes_sound(chip, priority);
-    let mut n = 16;
-    while n < priority.len() {
+    for n in 16..priority.len() {
         ok = both(is_kept(priority[n], chip.bits), ok);
-        n += 1;
     }
     ok
 }

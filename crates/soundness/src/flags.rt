@@ -6,16 +6,13 @@ ghost use Rattle.bools.specs.Every.{every};
 ghost use Rattle.rules.specs.Sound.{flag_sound, sound_flags};
 
 use exceptions::stands;
-use rules::{Chip, Place};
+use rules::{Chip, Lent, Place};
 
 // A flag that is not set costs one test.
 fn flag_fits(flag: bool, chip: Chip, place: Place, n: usize) -> bool
     ensures { result ≡ implies flag (stands chip place n) }
 {
-    if flag {
-        return stands(chip, place, n);
-    }
-    true
+    !flag || stands(chip, place, n)
 }
 
 // Only numbers below 16 are tried: the others that a chip holds flags for are lines, where a flag of any kind may stand.
@@ -23,35 +20,22 @@ fn flags_sound(chip: Chip, place: Place, flags: &[bool]) -> bool
     requires { length flags.now ≡ flag_count chip }
     ensures { result ≡ every (flag_sound chip place flags.now) (flag_count chip) }
 {
-    let mut n = 0;
-    while n < 16 {
+    for n in 0..16 {
         if !flag_fits(flags[n], chip, place, n) {
             return false;
         }
-        n += 1;
     }
     true
 }
 
-// The arrays of a state have the chip's lengths.
-pub fn sound_flags(
-    chip: Chip,
-    pending: &[bool],
-    active: &[bool],
-    enabled: &[bool],
-    level: &[bool],
-) -> bool
-    requires { (length pending.now ≡ flag_count chip) × (length active.now ≡ flag_count chip) × (length enabled.now ≡ flag_count chip) × (length level.now ≡ flag_count chip) }
-    ensures { result ≡ sound_flags chip pending.now active.now enabled.now level.now }
+// The lists of a state have the chip's lengths.
+#[tactic(auto, unfolding(rules::specs::Sound::sound_flags))]
+pub fn sound_flags(chip: Chip, state: &Lent<'_>) -> bool
+    requires { (length state.now.pending.now ≡ flag_count chip) × (length state.now.active.now ≡ flag_count chip) × (length state.now.enabled.now ≡ flag_count chip) × (length state.now.level.now ≡ flag_count chip) }
+    ensures { result ≡ sound_flags chip state.now.pending.now state.now.active.now state.now.enabled.now state.now.level.now }
 {
-    if !flags_sound(chip, Place::Exception, pending) {
-        return false;
-    }
-    if !flags_sound(chip, Place::Exception, active) {
-        return false;
-    }
-    if !flags_sound(chip, Place::Enable, enabled) {
-        return false;
-    }
-    flags_sound(chip, Place::Line, level)
+    flags_sound(chip, Place::Exception, state.pending)
+        && flags_sound(chip, Place::Exception, state.active)
+        && flags_sound(chip, Place::Enable, state.enabled)
+        && flags_sound(chip, Place::Line, state.level)
 }

@@ -15,11 +15,9 @@ fn unused_sound(nest: &[u8], depth: usize) -> bool
     ensures { result ≡ every (unused_sound nest.now depth) (length nest.now) }
 {
     let mut ok = true;
-    let mut i = depth;
     // No early end: a scan that always runs to its end is done many places at a time.
-    while i < nest.len() {
+    for i in depth..nest.len() {
         ok = both(nest[i] == 0, ok);
-        i += 1;
     }
     ok
 }
@@ -27,10 +25,7 @@ fn unused_sound(nest: &[u8], depth: usize) -> bool
 fn or_equal(found: bool, n: usize, entry: u8) -> bool
     ensures { result ≡ (eqb n entry || found) }
 {
-    if n == entry as usize {
-        return true;
-    }
-    found
+    n == entry as usize || found
 }
 
 // Whether n is among the `depth` oldest of the nest.
@@ -39,10 +34,8 @@ fn is_nested(nest: &[u8], depth: usize, n: usize) -> bool
     ensures { result ≡ is_in n (down nest.now depth) }
 {
     let mut found = false;
-    let mut i = 0;
-    while i < depth {
+    for i in 0..depth {
         found = or_equal(found, n, nest[i]);
-        i += 1;
     }
     found
 }
@@ -52,10 +45,7 @@ fn active_fits(flag: bool, nest: &[u8], depth: usize, n: usize) -> bool
     requires { depth ≤ length nest.now }
     ensures { result ≡ implies flag (is_in n (down nest.now depth)) }
 {
-    if flag {
-        return is_nested(nest, depth, n);
-    }
-    true
+    !flag || is_nested(nest, depth, n)
 }
 
 // Each active exception is nested.
@@ -63,12 +53,10 @@ fn active_nested(active: &[bool], nest: &[u8], depth: usize) -> bool
     requires { depth ≤ length nest.now }
     ensures { result ≡ every (nested_sound active.now (down nest.now depth)) (length active.now) }
 {
-    let mut n = 0;
-    while n < active.len() {
-        if !active_fits(active[n], nest, depth, n) {
+    for (n, flag) in active.iter().enumerate() {
+        if !active_fits(*flag, nest, depth, n) {
             return false;
         }
-        n += 1;
     }
     true
 }
@@ -77,12 +65,7 @@ fn and_active(ok: bool, active: &[bool], entry: u8) -> bool
     ensures { result ≡ (on active.now entry && ok) }
 {
     let n = entry as usize;
-    if n < active.len() {
-        if active[n] {
-            return ok;
-        }
-    }
-    false
+    n < active.len() && active[n] && ok
 }
 
 // Each nested exception is active.
@@ -91,10 +74,8 @@ fn nested_active(active: &[bool], nest: &[u8], depth: usize) -> bool
     ensures { result ≡ all_on active.now (down nest.now depth) }
 {
     let mut ok = true;
-    let mut i = 0;
-    while i < depth {
+    for i in 0..depth {
         ok = and_active(ok, active, nest[i]);
-        i += 1;
     }
     ok
 }
@@ -104,10 +85,7 @@ fn and_new(ok: bool, nest: &[u8], i: usize) -> bool
     requires { i < length nest.now }
     ensures { result ≡ (not (is_in (get_or nest.now i 0) (down nest.now i)) && ok) }
 {
-    if is_nested(nest, i, nest[i] as usize) {
-        return false;
-    }
-    ok
+    !is_nested(nest, i, nest[i] as usize) && ok
 }
 
 fn are_distinct(nest: &[u8], depth: usize) -> bool
@@ -115,30 +93,21 @@ fn are_distinct(nest: &[u8], depth: usize) -> bool
     ensures { result ≡ all_distinct (down nest.now depth) }
 {
     let mut ok = true;
-    let mut i = 0;
-    while i < depth {
+    for i in 0..depth {
         ok = and_new(ok, nest, i);
-        i += 1;
     }
     ok
 }
 
-// The arrays of a state have the chip's lengths. A depth above the nest's is refused first, so that no search reads past the end.
+// The arrays of a state have the chip's lengths. A depth above the nest's fails first, so that no search reads past the end.
+#[tactic(auto, unfolding(rules::specs::Sound::sound_nest))]
 pub fn sound_nest(chip: Chip, active: &[bool], nest: &[u8], depth: usize) -> bool
     requires { (length active.now ≡ flag_count chip) × (length nest.now ≡ exception_count chip) }
     ensures { result ≡ sound_nest chip active.now nest.now depth }
 {
-    if nest.len() < depth {
-        return false;
-    }
-    if !unused_sound(nest, depth) {
-        return false;
-    }
-    if !active_nested(active, nest, depth) {
-        return false;
-    }
-    if !nested_active(active, nest, depth) {
-        return false;
-    }
-    are_distinct(nest, depth)
+    depth <= nest.len()
+        && unused_sound(nest, depth)
+        && active_nested(active, nest, depth)
+        && nested_active(active, nest, depth)
+        && are_distinct(nest, depth)
 }

@@ -6,7 +6,7 @@ ghost use Rattle.systick.specs.Skip.{skip_of};
 ghost use Rattle.systick.specs.ClosedForm.{from_zero, falls_in, leaving};
 ghost use Rattle.systick.specs.Timer.{fresh_timer, steady, tick_of, read_control, read_reload, read_current, write_control, write_reload, write_current, sound_timer};
 
-#[derive(Clone, Copy)]
+#[derive(Clone, Copy, PartialEq, Eq, Debug)]
 pub struct Timer {
     // STCTRL bits 2:0: counting, TICKINT, and the clock's source, which has no effect here.
     pub control: u32,
@@ -16,7 +16,7 @@ pub struct Timer {
     pub count: bool,
 }
 
-#[derive(Clone, Copy)]
+#[derive(Clone, Copy, PartialEq, Eq, Debug)]
 pub struct Ticked {
     pub timer: Timer,
     // The current value fell to 0.
@@ -25,13 +25,14 @@ pub struct Ticked {
     pub pends: bool,
 }
 
-#[derive(Clone, Copy)]
+#[derive(Clone, Copy, PartialEq, Eq, Debug)]
 pub struct TimerRead {
     pub value: u32,
     pub timer: Timer,
 }
 
 // The current value so many ticks after it was 0. It is 0 again every reload + 1 ticks.
+#[tactic(auto, unfolding(crate::specs::ClosedForm::from_zero))]
 fn from_zero(reload: u32, ticks: u32) -> u32
     ensures { result ≡ from_zero reload ticks }
 {
@@ -44,16 +45,11 @@ fn from_zero(reload: u32, ticks: u32) -> u32
 }
 
 // Whether ticks that bring the current value down to 0 and go on for so many more fall to 0.
+#[tactic(auto, unfolding(crate::specs::ClosedForm::falls_in))]
 fn falls_in(current: u32, reload: u32, more: u32) -> bool
     ensures { result ≡ falls_in current reload more }
 {
-    if 0 < current {
-        return true;
-    }
-    if reload == 0 {
-        return false;
-    }
-    reload < more
+    0 < current || reload > 0 && reload < more
 }
 
 impl Timer {
@@ -93,6 +89,7 @@ impl Timer {
         }
     }
 
+    #[tactic(auto, unfolding(crate::specs::Timer::tick_of))]
     pub fn tick(mut self) -> Ticked
         ensures { result ≡ tick_of self }
     {
@@ -111,6 +108,7 @@ impl Timer {
     }
 
     // So many ticks, without stepping through them: those that bring the current value down to 0, then whole periods and a rest.
+    #[tactic(auto, using(crate::specs::SkipLaws::skip_skipped), unfolding(crate::specs::ClosedForm::skipped))]
     pub fn skip(mut self, ticks: u32) -> Ticked
         ensures { result ≡ skip_of ticks self }
     {
@@ -131,6 +129,7 @@ impl Timer {
     }
 
     // STCTRL. Reading it clears COUNT.
+    #[tactic(auto, unfolding(crate::specs::Timer::read_control))]
     pub fn read_control(mut self) -> TimerRead
         ensures { result ≡ read_control self }
     {
@@ -163,6 +162,7 @@ impl Timer {
         self.current
     }
 
+    #[tactic(auto, unfolding(crate::specs::Timer::write_control))]
     pub fn write_control(mut self, value: u32) -> Self
         ensures { result ≡ write_control value self }
     {
@@ -170,6 +170,7 @@ impl Timer {
         self
     }
 
+    #[tactic(auto, unfolding(crate::specs::Timer::write_reload))]
     pub fn write_reload(mut self, value: u32) -> Self
         ensures { result ≡ write_reload value self }
     {
@@ -178,6 +179,7 @@ impl Timer {
     }
 
     // Whatever is written, the current value and COUNT become 0.
+    #[tactic(auto, unfolding(crate::specs::Timer::write_current))]
     pub fn write_current(mut self, value: u32) -> Self
         ensures { result ≡ write_current value self }
     {
@@ -186,15 +188,10 @@ impl Timer {
         self
     }
 
+    #[tactic(auto, unfolding(crate::specs::Timer::sound_timer))]
     pub fn is_sound(self) -> bool
         ensures { result ≡ sound_timer self }
     {
-        if self.control >= 8 {
-            return false;
-        }
-        if self.reload >= 0x1000000 {
-            return false;
-        }
-        self.current < 0x1000000
+        self.control < 8 && self.reload < 0x1000000 && self.current < 0x1000000
     }
 }

@@ -1,38 +1,33 @@
 // As `timing`, on the state of the chip that the words after its name name: the sum of all refusals and values of 100 runs of the script on
 // standard input, every event a public call. A program of its own: in one program with both, the code that they share is no longer compiled
 // for the 55 lines of `model`, whose calls then take half as long again.
+// The loop that it shares with `timing` would be a public function of one more crate, with a contract on a sum that nothing else reads.
 #![tactic(auto)]
 
 use any_chip::State;
+use calls::Calls;
 use rules::Setup;
-use script::ReadEvent;
 
 const STDIN_FILENO: i32 = 0;
 
-const STDOUT_FILENO: i32 = 1;
-
 const TIMES: u64 = 100;
 
-fn plus(a: u64, b: u32) -> u64 {
-    std::num::wrapping_add_u64(a, b as u64)
-}
-
-// One pass over the script.
+// One pass over the script. A while: an event moves the offset on by its own length.
 fn run_once(script: &[u8], setup: Setup) -> u64 {
     let mut state = State::fresh(setup);
-    let mut sum = 0;
+    let mut sum: u64 = 0;
     let mut at = 0;
     while at < script.len() {
         match script::read_event(script, at) {
-            ReadEvent::Refused(_) => {
+            Err(_) => {
                 return sum;
             }
-            ReadEvent::Found(event, next) => {
+            Ok((event, next)) => {
                 let reply = state.step(event);
-                let left = reply.state;
-                state = left;
+                state = reply.state;
                 at = next;
-                sum = plus(plus(sum, reply.refusal), reply.value);
+                sum = sum.wrapping_add(u64::from(reply.refusal));
+                sum = sum.wrapping_add(u64::from(reply.value));
             }
         }
     }
@@ -40,21 +35,18 @@ fn run_once(script: &[u8], setup: Setup) -> u64 {
 }
 
 fn run_often(script: &[u8], setup: Setup) -> u64 {
-    let mut sum = 0;
-    let mut i: u64 = 0;
-    while i < TIMES {
-        sum = std::num::wrapping_add_u64(sum, run_once(script, setup));
-        i += 1;
+    let mut sum: u64 = 0;
+    for _ in 0..TIMES {
+        sum = sum.wrapping_add(run_once(script, setup));
     }
     sum
 }
 
-fn main(rt: HostRuntime) {
+// `io` reads the script into fixed memory.
+fn main(rt: HostRuntime) -> std::io::Result<()> {
     let mut space = [0u8; 65537];
     let n = io::read_full(STDIN_FILENO, &mut space);
     let words = setup_words::named(&rt);
-    let setup = words.setup;
-    let sum = run_often(&space[..n], setup);
-    io::print_decimal(STDOUT_FILENO, sum);
-    io::write_all(STDOUT_FILENO, b"\n");
+    let sum = run_often(&space[..n], words.setup);
+    println!(rt; "{sum}")
 }

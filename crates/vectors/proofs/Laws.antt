@@ -1,12 +1,11 @@
 -- What agreed so far, followed by what is left to write, is the text of the script.
-use Prim.Native.Nat.{ℕ, ◌+◌, ◌≤◌, ◌<◌}
-use mathlib.Core.Path.{◌≡◌, refl, sym, ◌∙◌, subst}
+use Prim.Native.Nat.{ℕ, ◌+◌, ◌≤◌}
+use mathlib.Core.Path.{◌≡◌, sym, ◌∙◌, subst}
 use mathlib.Core.List.{List, ◌++◌, append_assoc, append-nil}
 use mathlib.Core.Bool.{false, not}
-use native.Mathlib.Numerals.{add-one}
 use native.Mathlib.Omega.{arith}
-use lib.ListN.{length, take, drop, get_or, length-take, length-drop}
-use lib.Seq.{take_all, take-suc, take-add, get_or-drop}
+use lib.ListN.{length, take, drop, length-take}
+use lib.Seq.{take_all, take-add}
 use borrow.Author.Tests.{not-false}
 use Rattle.numbers.specs.NumberLaws.{Bytes}
 use Rattle.rules.specs.declared.Chip.{Chip}
@@ -18,23 +17,9 @@ use Rattle.pieces.specs.declared.Course.{Course}
 use Rattle.pieces.specs.Pieces.{rest_of, Usable, Ran}
 use Rattle.pieces.proofs.Headway.{onward}
 use Rattle.any_chip.specs.View.{model}
-use Rattle.any_run.specs.declared.Progress.{Progress}
 use Rattle.any_run.specs.Progress as any
-use Rattle.any_run.specs.Progress.{course}
+use Rattle.any_run.specs.Progress.{Progress, course}
 use Rattle.vectors.specs.Agree.{Agree}
-
-module _ {want : List ℕ} {at : ℕ} {text : List ℕ} where
-  pub agree_first : at ≤ length want → Agree want at text 0
-  agree_first h = record { some = omega arith; inside = omega arith; equal = refl }
-
-  pub agree_next : {i : ℕ} → Agree want at text i → i < length text → at + i < length want → get_or want (at + i) 0 ≡ get_or text i 0 → Agree want at text (i + 1)
-  agree_next {i} a h k e =
-      let l = length-drop at want in
-      record {
-        some = omega arith;
-        inside = omega arith;
-        equal = rw (add-one, take-suc text i 0 h, take-suc (drop at want) i 0 (omega arith), get_or-drop, e, a.equal);
-      }
 
 -- So much of `want` agrees, with a script on this chip that has come so far.
 pub record Judging (c : Chip) (script want : List ℕ) (m : Model) (p : Course) (at : ℕ) : Type 0 where

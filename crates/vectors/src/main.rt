@@ -3,7 +3,7 @@
 // Vectors run on the 55-line chip of `run`, and after setup words and their values on the chip that these name, until other words come.
 #![tactic(auto)]
 
-ghost use Rattle.std.specs.Prelude.{◌≡◌, ◌+◌, ◌^◌, ◌<◌, ◌≤◌, length};
+ghost use Rattle.std.specs.Prelude.{◌≡◌, ◌+◌, ◌^◌, ◌<◌, ◌≤◌, length, IfSome};
 ghost use Rattle.io.specs.Counts.{IsPrefixLen};
 ghost use Rattle.rules.specs.Chip.{chip55, chip_of};
 ghost use Rattle.text.specs.Text.{text_of};
@@ -11,14 +11,11 @@ ghost use Rattle.vectors.specs.Agree.{Agree};
 ghost use Rattle.vectors.specs.Way.{chip_by};
 
 use rules::Setup;
-use setup_words::Words;
 use std::fs::File;
-use std::io::Read;
+use std::io::{Read, Result, Write};
 use std::rt::{Env, Files};
 
-const STDOUT_FILENO: i32 = 1;
-
-// What a vector runs on.
+// What a vector runs on. No Option: a variant is a library, and `chip_by` of specs/Way.antt its chip.
 #[derive(Clone, Copy)]
 enum Way {
     Run,
@@ -30,23 +27,12 @@ fn agreeing(want: &[u8], at: usize, text: &[u8]) -> usize
     requires { at ≤ length want.now }
     ensures { Agree want.now at text.now result }
 {
-    let mut i = 0;
-    while i < text.len() {
-        if want.len() - at <= i {
+    for i in 0..text.len() {
+        if want.len() - at <= i || want[at + i] != text[i] {
             return i;
         }
-        if want[at + i] != text[i] {
-            return i;
-        }
-        i += 1;
     }
-    i
-}
-
-fn is_newline(b: u8) -> usize
-    ensures { result ≤ 1 }
-{
-    if b == b'\n' { 1 } else { 0 }
+    text.len()
 }
 
 // The number of the line that an offset lies in.
@@ -54,19 +40,14 @@ fn line_at(want: &[u8], at: usize) -> usize
     requires { (at ≤ length want.now) × (length want.now ≤ 262144) }
     ensures { 0 < result }
 {
-    let mut before = 0;
-    let mut i = 0;
-    while i < at {
-        before += is_newline(want[i]);
-        i += 1;
-    }
-    before + 1
+    want[..at].iter().filter(|b| **b == b'\n').count() + 1
 }
 
-// The first line that differs; 0 says that `want` is the text of the script. `want` is read into an array of that length.
-fn first_difference(script: &[u8], want: &[u8]) -> usize
+// The first line that differs; None says that `want` is the text of the script. `want` is read into an array of that length.
+// A while: the end of the script ends it, which is no index.
+fn first_difference(script: &[u8], want: &[u8]) -> Option<usize>
     requires { length want.now ≤ 262144 }
-    ensures { result ≡ 0 → want.now ≡ text_of chip55 script.now }
+    ensures { result ≡ None → want.now ≡ text_of chip55 script.now }
 {
     let mut out = io::large_buffer();
     let mut progress = run::start();
@@ -76,20 +57,21 @@ fn first_difference(script: &[u8], want: &[u8]) -> usize
         let wrote = progress.wrote;
         let same = agreeing(want, at, &out[..wrote]);
         if same < wrote {
-            return line_at(want, at + same);
+            return Some(line_at(want, at + same));
         }
         at += same;
     }
     if at < want.len() {
-        return line_at(want, at);
+        return Some(line_at(want, at));
     }
-    0
+    None
 }
 
-// The same on the chip of a setup.
-fn first_difference_on(setup: Setup, script: &[u8], want: &[u8]) -> usize
+// The same on the chip of a setup. A loop of its own: `run` and `any_run` have two types of progress, whose clauses differ (`Ran` of each), so that
+// one function over both needs a trait that states them as laws and an impl for each, which is longer than the loop.
+fn first_difference_on(setup: Setup, script: &[u8], want: &[u8]) -> Option<usize>
     requires { length want.now ≤ 262144 }
-    ensures { result ≡ 0 → want.now ≡ text_of (chip_of setup) script.now }
+    ensures { result ≡ None → want.now ≡ text_of (chip_of setup) script.now }
 {
     let mut out = io::large_buffer();
     let mut progress = any_run::start(setup);
@@ -99,20 +81,20 @@ fn first_difference_on(setup: Setup, script: &[u8], want: &[u8]) -> usize
         let wrote = progress.wrote;
         let same = agreeing(want, at, &out[..wrote]);
         if same < wrote {
-            return line_at(want, at + same);
+            return Some(line_at(want, at + same));
         }
         at += same;
     }
     if at < want.len() {
-        return line_at(want, at);
+        return Some(line_at(want, at));
     }
-    0
+    None
 }
 
 // .. and by the way that a vector runs.
-fn difference(way: Way, script: &[u8], want: &[u8]) -> usize
+fn difference(way: Way, script: &[u8], want: &[u8]) -> Option<usize>
     requires { length want.now ≤ 262144 }
-    ensures { result ≡ 0 → want.now ≡ text_of (chip_by way) script.now }
+    ensures { result ≡ None → want.now ≡ text_of (chip_by way) script.now }
 {
     match way {
         Way::Run => first_difference(script, want),
@@ -120,22 +102,15 @@ fn difference(way: Way, script: &[u8], want: &[u8]) -> usize
     }
 }
 
-fn text(s: &[u8]) {
-    io::write_all(STDOUT_FILENO, s);
-}
-
-fn number(n: usize) {
-    io::print_decimal(STDOUT_FILENO, n as u64);
-}
-
-// The argument that names a file.
-fn name(rt: &impl Env, i: usize) {
+// The argument that names a file, whatever its bytes.
+fn name(rt: &(impl Env + Print), i: usize) -> Result<()> {
     let mut space = [0u8; 64];
     let n = setup_words::argument(rt, i, &mut space);
-    text(&space[..n]);
+    std::io::writer(rt).write_all(&space[..n])
 }
 
-// Reads until `space` is full, the file ends or a read fails, and returns how many bytes stand at the start of `space`.
+// Reads until `space` is full, the file ends or a read fails, and returns how many bytes stand at the start of `space`. A while: a read moves the
+// count on by what it gives. `read_exact` does not say how many bytes a file had that ended early, and `read_to_end` needs a heap.
 fn read_full(file: &mut impl Read, space: &mut [u8]) -> usize
     ensures { IsPrefixLen result space.new }
 {
@@ -158,114 +133,77 @@ fn opened<R: Env + Files>(rt: &R, i: usize) -> Option<R::File> {
     File::open(rt, name).ok()
 }
 
-// Reads the file that an argument names. As many bytes as there is space for, if it cannot be read or is longer.
-fn read_file<R: Env + Files>(rt: &R, i: usize, space: &mut [u8]) -> usize
-    ensures { IsPrefixLen result space.new }
+// Reads the file that an argument names, and returns its length: None if it cannot be read or fills the space.
+fn read_file<R: Env + Files>(rt: &R, i: usize, space: &mut [u8]) -> Option<usize>
+    ensures { IfSome result (λ n. IsPrefixLen n space.new) }
 {
-    match opened(rt, i) {
-        None => space.len(),
-        Some(mut file) => read_full(&mut file, space),
-    }
+    let mut file = opened(rt, i)?;
+    let n = read_full(&mut file, space);
+    if n < space.len() { Some(n) } else { None }
 }
 
-fn unread(rt: &impl Env, i: usize) -> usize
-    ensures { result ≤ 1 }
-{
-    name(rt, i);
-    text(b" cannot be read\n");
-    0
+fn unread(rt: &(impl Env + Print), i: usize) -> Result<()> {
+    name(rt, i)?;
+    println!(rt; " cannot be read")
 }
 
-fn judged(rt: &impl Env, i: usize, line: usize) -> usize
-    ensures { result ≤ 1 }
-{
-    if line == 0 {
-        return 1;
-    }
-    name(rt, i);
-    text(b" differs first in line ");
-    number(line);
-    text(b"\n");
-    0
+fn judged(rt: &(impl Env + Print), i: usize, difference: Option<usize>) -> Result<bool> {
+    let Some(line) = difference else {
+        return Ok(true);
+    };
+    name(rt, i)?;
+    println!(rt; " differs first in line {line}")?;
+    Ok(false)
 }
 
-// The script that an argument names, and the lines that the next one names: 1 if they agree.
-fn vector<R: Env + Files>(rt: &R, way: Way, i: usize) -> usize
+// The script that an argument names, and the lines that the next one names: whether they agree.
+fn vector<R: Env + Files + Print>(rt: &R, way: Way, i: usize) -> Result<bool>
     requires { i + 1 < 2 ^ 64 }
-    ensures { result ≤ 1 }
 {
     let mut script = [0u8; 65538];
     let mut want = [0u8; 262144];
-    let length = read_file(rt, i, &mut script);
-    if length == script.len() {
-        return unread(rt, i);
-    }
-    let wanted = read_file(rt, i + 1, &mut want);
-    if wanted == want.len() {
-        return unread(rt, i + 1);
-    }
+    let Some(length) = read_file(rt, i, &mut script) else {
+        unread(rt, i)?;
+        return Ok(false);
+    };
+    let Some(wanted) = read_file(rt, i + 1, &mut want) else {
+        unread(rt, i + 1)?;
+        return Ok(false);
+    };
     judged(rt, i, difference(way, &script[..length], &want[..wanted]))
-}
-
-fn summary(agreed: usize, vectors: usize) {
-    number(agreed);
-    text(b" of ");
-    number(vectors);
-    text(b" vectors agree\n");
 }
 
 fn is_word(rt: &impl Env, i: usize) -> bool {
     let mut space = [0u8; 64];
     let n = setup_words::argument(rt, i, &mut space);
-    if n < 2 {
-        return false;
-    }
-    if space[0] != b'-' {
-        return false;
-    }
-    space[1] == b'-'
+    space[..n].starts_with(b"--")
 }
 
-// The words with the one at i and its value, where words stood before it too; else these two alone.
-fn continued(rt: &impl Env, words: Words, naming: bool, i: usize) -> Words
-    requires { i + 1 < 2 ^ 64 }
-{
-    if naming {
-        return setup_words::pair_at(rt, words, i, i + 1);
-    }
-    setup_words::pair_at(rt, setup_words::start(), i, i + 1)
-}
-
-// The way after the word at i. Words that are wrong are reported, and leave it.
-fn named(rt: &impl Env, way: Way, words: Words, i: usize) -> Way {
-    if words.wrong {
-        unread(rt, i);
-        return way;
-    }
-    let setup = words.setup;
-    Way::AnyRun(setup)
-}
-
-fn main(rt: HostRuntime) {
+// Words that follow one another name one setup: `words` are those since the last vector. Words that are wrong are reported, and leave the way.
+fn main(rt: HostRuntime) -> Result<()> {
     let pairs = setup_words::argument_count(&rt) / 2;
     let mut way = Way::Run;
-    let mut words = setup_words::start();
-    let mut naming = false;
-    let mut agreed = 0;
-    let mut vectors = 0;
-    let mut k = 0;
-    while k < pairs {
+    let mut words = None;
+    let mut agreed: usize = 0;
+    let mut vectors: usize = 0;
+    for k in 0..pairs {
         let i = 2 * k + 1;
-        k += 1;
         if is_word(&rt, i) {
-            words = continued(&rt, words, naming, i);
-            naming = true;
-            way = named(&rt, way, words, i);
-            continue;
+            let before = words.unwrap_or(setup_words::start());
+            let named = setup_words::pair_at(&rt, before, i, i + 1);
+            words = Some(named);
+            if named.wrong {
+                unread(&rt, i)?;
+            } else {
+                way = Way::AnyRun(named.setup);
+            }
+        } else {
+            words = None;
+            vectors += 1;
+            if vector(&rt, way, i)? {
+                agreed += 1;
+            }
         }
-        naming = false;
-        agreed += vector(&rt, way, i);
-        vectors += 1;
     }
-    summary(agreed, vectors);
+    println!(rt; "{agreed} of {vectors} vectors agree")
 }

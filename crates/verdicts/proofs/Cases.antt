@@ -1,6 +1,5 @@
 -- Worked cases.
 use Rattle.std.specs.Prelude.{◌≡◌, refl, true, false}
-use Rattle.mpu.specs.declared.MpuRegister.TheVariants.{Attributes}
 use Rattle.mpu.specs.Registers.{fresh_mpu, kept_base, kept_attributes, with_base, write_base, with_attributes, write_mpu}
 use Rattle.verdicts.specs.declared.Access.TheVariants.{Read, Write, Fetch}
 use Rattle.verdicts.specs.Verdict.{default_allows, on_private_bus, default_decides, agrees, eighth_on, region_matches, may_read, may_write, rights_of, allows, background, region_allows, regions_allow, system_fetch, permits, fault_of, verdict}

@@ -1,5 +1,5 @@
 -- Document 01's rows of rights are what the formula gives.
-use Rattle.std.specs.Prelude.{ℕ, ◌*◌, ◌/◌, ◌^◌, List, [], ◌∷◌, true, false}
+use Rattle.std.specs.Prelude.{ℕ, ◌*◌, ◌^◌, List, [], ◌∷◌, true, false}
 use Rattle.verdicts.specs.declared.Rights.{Rights}
 use Rattle.verdicts.specs.Verdict.{rights_of}
 

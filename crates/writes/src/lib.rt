@@ -1,149 +1,92 @@
-// Register writes on lent lists, for every chip.
+// Register writes on a lent state, for every chip.
 #![tactic(auto)]
 
 ghost use Rattle.std.specs.Prelude.{◌≡◌, ◌||◌, ◌<◌};
-ghost use Rattle.rules.specs.Model.{Model, with_pending, with_active, with_enabled, with_level, with_priority, with_core, with_system};
-ghost use Rattle.rules.specs.Lent.{answer};
-ghost use Rattle.rules.specs.declared.Chip.{Chip};
-ghost use Rattle.rules.specs.declared.Register.TheVariants.{Timer, Guard};
-ghost use Rattle.rules.specs.declared.SystemRegister.TheVariants.{Apint};
+ghost use Rattle.rules.specs.Model.{with_system};
+ghost use Rattle.rules.specs.Lent.{SameLoan, answer, view};
 ghost use Rattle.rules.specs.Priorities.{privileged};
 ghost use Rattle.rules.specs.Writes.{bank_written, stored_written, system_written, word_written, byte_written};
 ghost use Rattle.rules.specs.Registers.{free_write, write_call};
 
-use mpu::MpuRegister;
-use parts::{accepted, is_privileged, refused};
-use rules::{Bank, Chip, Core, Outcome, Register, SystemRegister, TimerRegister};
+use parts::{accepted, is_privileged};
+use rules::{Bank, Chip, Core, Lent, Outcome, Register, SystemRegister};
 
-fn bank_written(
-    bank: Bank,
-    n: usize,
-    v: u32,
-    pending: &mut [bool],
-    active: &[bool],
-    enabled: &mut [bool],
-    level: &[bool],
-)
-    ensures { (m : Model) → with_level level.now (with_enabled enabled.new (with_active active.now (with_pending pending.new m))) ≡ bank_written bank n v (with_level level.now (with_enabled enabled.old (with_active active.now (with_pending pending.old m)))) }
+fn bank_written(state: &mut Lent<'_>, bank: Bank, n: usize, v: u32)
+    ensures writes { view state.new ≡ bank_written bank n v (view state.old) }
+    ensures loan { SameLoan state.old state.new }
 {
     match bank {
-        Bank::EnableSet => flag_words::set_flags(enabled, n, v),
-        Bank::EnableClear => flag_words::clear_flags(enabled, n, v),
-        Bank::PendingSet => flag_words::set_flags(pending, n, v),
-        Bank::PendingClear => nvic::flags::clear_pending(pending, level, active, n, v),
+        Bank::EnableSet => flag_words::set_flags(state.enabled, n, v),
+        Bank::EnableClear => flag_words::clear_flags(state.enabled, n, v),
+        Bank::PendingSet => flag_words::set_flags(state.pending, n, v),
+        Bank::PendingClear => nvic::flags::clear_pending(state, n, v),
         Bank::Active => {}
     }
 }
 
-fn apint_written(mut core: Core, v: u32) -> Core
-    ensures { (chip : Chip) (m : Model) → with_core result m ≡ system_written chip Apint v (with_core core m) }
+fn stored_written(chip: Chip, state: &mut Lent<'_>, register: SystemRegister, v: u32)
+    ensures writes { view state.new ≡ with_system (stored_written chip register v state.old.core.system) (view state.old) }
+    ensures loan { SameLoan state.old state.new }
 {
-    core.group = control::apint_written(v, core.group);
-    core
+    let system = state.core.system;
+    state.core.system = system::stored::stored_written(chip, system, register, v);
 }
 
-fn stored_written(chip: Chip, mut core: Core, register: SystemRegister, v: u32) -> Core
-    ensures { (m : Model) → with_core result m ≡ with_system (stored_written chip register v core.system) (with_core core m) }
-{
-    let system = core.system;
-    let next = system::stored::stored_written(chip, system, register, v);
-    core.system = next;
-    core
-}
-
-fn system_written(
-    chip: Chip,
-    register: SystemRegister,
-    v: u32,
-    pending: &mut [bool],
-    enabled: &mut [bool],
-    core: Core,
-) -> Core
-    ensures { (m : Model) → with_core result (with_enabled enabled.new (with_pending pending.new m)) ≡ system_written chip register v (with_core core (with_enabled enabled.old (with_pending pending.old m))) }
+fn system_written(chip: Chip, state: &mut Lent<'_>, register: SystemRegister, v: u32)
+    ensures writes { view state.new ≡ system_written chip register v (view state.old) }
+    ensures loan { SameLoan state.old state.new }
 {
     match register {
-        SystemRegister::Intctrl => {
-            control::intctrl_written(pending, v);
-            core
+        SystemRegister::Intctrl => control::intctrl_written(state.pending, v),
+        SystemRegister::Apint => {
+            let group = state.core.group;
+            state.core.group = control::apint_written(v, group);
         }
-        SystemRegister::Apint => apint_written(core, v),
-        SystemRegister::Syshndctrl => {
-            control::syshndctrl_written(enabled, v);
-            core
-        }
-        SystemRegister::Swtrig => {
-            control::swtrig_written(pending, chip, v);
-            core
-        }
-        SystemRegister::Vtable => stored_written(chip, core, register, v),
-        SystemRegister::Sysctrl => stored_written(chip, core, register, v),
-        SystemRegister::Cfgctrl => stored_written(chip, core, register, v),
-        SystemRegister::Faultstat => stored_written(chip, core, register, v),
-        SystemRegister::Hfaultstat => stored_written(chip, core, register, v),
-        SystemRegister::Ictype => core,
-        SystemRegister::Cpuid => core,
-        SystemRegister::Mmaddr => core,
-        SystemRegister::Faultaddr => core,
+        SystemRegister::Syshndctrl => control::syshndctrl_written(state.enabled, v),
+        SystemRegister::Swtrig => control::swtrig_written(state.pending, chip, v),
+        SystemRegister::Vtable => stored_written(chip, state, register, v),
+        SystemRegister::Sysctrl => stored_written(chip, state, register, v),
+        SystemRegister::Cfgctrl => stored_written(chip, state, register, v),
+        SystemRegister::Faultstat => stored_written(chip, state, register, v),
+        SystemRegister::Hfaultstat => stored_written(chip, state, register, v),
+        SystemRegister::Ictype => {}
+        SystemRegister::Cpuid => {}
+        SystemRegister::Mmaddr => {}
+        SystemRegister::Faultaddr => {}
     }
 }
 
-fn timer_written(mut core: Core, register: TimerRegister, v: u32) -> Core
-    ensures { (chip : Chip) (m : Model) → with_core result m ≡ word_written chip (Timer register) v (with_core core m) }
-{
-    let timer = core.timer;
-    let next = system::timer::timer_written(timer, register, v);
-    core.timer = next;
-    core
-}
-
-fn guard_written(mut core: Core, register: MpuRegister, v: u32) -> Core
-    ensures { (chip : Chip) (m : Model) → with_core result m ≡ word_written chip (Guard register) v (with_core core m) }
-{
-    let guard = core.guard;
-    let next = guard.write(register, v);
-    core.guard = next;
-    core
-}
-
-fn word_written(
-    chip: Chip,
-    register: Register,
-    v: u32,
-    pending: &mut [bool],
-    active: &[bool],
-    enabled: &mut [bool],
-    level: &[bool],
-    priority: &mut [u8],
-    core: Core,
-) -> Core
-    ensures { (m : Model) → with_core result (with_priority priority.new (with_level level.now (with_enabled enabled.new (with_active active.now (with_pending pending.new m))))) ≡ word_written chip register v (with_core core (with_priority priority.old (with_level level.now (with_enabled enabled.old (with_active active.now (with_pending pending.old m)))))) }
+fn word_written(chip: Chip, state: &mut Lent<'_>, register: Register, v: u32)
+    ensures writes { view state.new ≡ word_written chip register v (view state.old) }
+    ensures loan { SameLoan state.old state.new }
 {
     match register {
-        Register::Missing => core,
-        Register::Timer(r) => timer_written(core, r, v),
-        Register::Flags(bank, n) => {
-            bank_written(bank, n, v, pending, active, enabled, level);
-            core
+        Register::Missing => {}
+        Register::Timer(r) => {
+            let timer = state.core.timer;
+            state.core.timer = system::timer::timer_written(timer, r, v);
         }
-        Register::Priority(n) => {
-            nvic::bytes::put_bytes(priority, chip, n, v);
-            core
+        Register::Flags(bank, n) => bank_written(state, bank, n, v),
+        Register::Priority(n) => nvic::bytes::put_bytes(state.priority, chip, n, v),
+        Register::System(r) => system_written(chip, state, r, v),
+        Register::Guard(r) => {
+            let guard = state.core.guard;
+            state.core.guard = guard.write(r, v);
         }
-        Register::System(r) => system_written(chip, r, v, pending, enabled, core),
-        Register::Guard(r) => guard_written(core, r, v),
-        Register::Constant(_) => core,
+        Register::Constant(_) => {}
     }
 }
 
-fn byte_written(chip: Chip, register: Register, lane: u32, v: u32, priority: &mut [u8])
+fn byte_written(chip: Chip, state: &mut Lent<'_>, register: Register, lane: u32, v: u32)
     requires { lane < 4 }
-    ensures { (m : Model) → with_priority priority.new m ≡ byte_written chip register lane v (with_priority priority.old m) }
+    ensures writes { view state.new ≡ byte_written chip register lane v (view state.old) }
+    ensures loan { SameLoan state.old state.new }
 {
     match register {
         Register::Missing => {}
         Register::Timer(_) => {}
         Register::Flags(_, _) => {}
-        Register::Priority(n) => nvic::bytes::put_byte_after(priority, chip, n, lane, v),
+        Register::Priority(n) => nvic::bytes::put_byte_after(state.priority, chip, n, lane, v),
         Register::System(_) => {}
         Register::Guard(_) => {}
         Register::Constant(_) => {}
@@ -173,32 +116,17 @@ fn may_write(core: Core, width: u32, address: u32) -> bool
     free_write(core, width, address)
 }
 
-pub fn write(
-    chip: Chip,
-    pending: &mut [bool],
-    active: &[bool],
-    enabled: &mut [bool],
-    level: &[bool],
-    priority: &mut [u8],
-    core: Core,
-    width: u32,
-    address: u32,
-    value: u32,
-) -> Outcome
-    ensures { (m : Model) → answer result (with_priority priority.new (with_level level.now (with_enabled enabled.new (with_active active.now (with_pending pending.new m))))) ≡ write_call chip (with_core core (with_priority priority.old (with_level level.now (with_enabled enabled.old (with_active active.now (with_pending pending.old m)))))) width address value }
+pub fn write(chip: Chip, state: &mut Lent<'_>, width: u32, address: u32, value: u32) -> Outcome
+    ensures answer { answer result (view state.new) ≡ write_call chip (view state.old) width address value }
+    ensures loan { SameLoan state.old state.new }
 {
     let register = map::register_of(chip, address);
-    let allowed = may_write(core, width, address);
-    let refusal = map::checks::access_refusal(chip, register, allowed, width, address);
-    if refusal == 0 {
-        if width == 4 {
-            let next = word_written(
-                chip, register, value, pending, active, enabled, level, priority, core,
-            );
-            return accepted(next, 0);
-        }
-        byte_written(chip, register, address % 4, value, priority);
-        return accepted(core, 0);
+    let allowed = may_write(state.core, width, address);
+    map::checks::access_refusal(chip, register, allowed, width, address)?;
+    if width == 4 {
+        word_written(chip, state, register, value);
+        return Ok(accepted(0));
     }
-    refused(core, refusal)
+    byte_written(chip, state, register, address % 4, value);
+    Ok(accepted(0))
 }

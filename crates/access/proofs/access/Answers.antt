@@ -1,22 +1,32 @@
 -- The checks 6, 1 and 2 in their order, then the verdict.
 use mathlib.Core.Path.{◌∙◌, sym}
 use mir.Facts.{to_z-of_z}
-use borrow.Author.Tests.{lt-ltb, le-ltb}
+use Rattle.std.proofs.lemmas.Result.{err_from_is_err_and}
 use Rattle.rules.specs.Access.{access_at}
+use Rattle.access.proofs.Laws.{of_err, of_ok}
 use Rattle.access.proofs.access.Goals as goal
 
-pub returns-then-kind-gt2 : goal.returns-then-kind-gt2
+pub returns-in_err-purpose : goal.returns-in_err-purpose
 unfolding access_at
-returns-then-kind-gt2 c = λ m. simp (c.refused.ensures, lt-ltb _ _ c.if-kind-gt2.true)
+returns-in_err-purpose c =
+    λ m. let k = of_err _ _ _ (sym c.in_err-purpose.ensures) in
+    let p = err_from_is_err_and c.from_residual.result c.from_residual.ensures.1 in
+    rw (p.1, p.2, k.1) (simp k.0)
 
-pub returns-then-is_aligned : goal.returns-then-is_aligned
+pub returns-then-not-fits_access : goal.returns-then-not-fits_access
 unfolding access_at
-returns-then-is_aligned c = λ m. simp (c.accepted.ensures, c.verdict-verdict.ensures, c.purpose_of-purpose.ensures, c.is_privileged.ensures, to_z-of_z c.ranges.limit, le-ltb _ _ c.if-kind-gt2.false, sym c.fits_access.ensures ∙ c.if-fits_access.true, sym c.is_aligned.ensures ∙ c.if-is_aligned.true)
+returns-then-not-fits_access c =
+    λ m. let k = of_ok _ _ _ (sym c.in_ok-purpose.ensures) in
+    simp (k.0, sym c.fits_access.ensures ∙ c.if-not-fits_access.true)
 
-pub returns-then-fits_access : goal.returns-then-fits_access
+pub returns-then-not-is_aligned : goal.returns-then-not-is_aligned
 unfolding access_at
-returns-then-fits_access c = λ m. simp (c.refused-then-fits_access.ensures, le-ltb _ _ c.if-kind-gt2.false, sym c.fits_access.ensures ∙ c.if-fits_access.true, sym c.is_aligned.ensures ∙ c.if-is_aligned.false)
+returns-then-not-is_aligned c =
+    λ m. let k = of_ok _ _ _ (sym c.in_ok-purpose.ensures) in
+    simp (k.0, sym c.fits_access.ensures ∙ c.if-not-fits_access.false, sym c.is_aligned.ensures ∙ c.if-not-is_aligned.true)
 
 pub returns : goal.returns
 unfolding access_at
-returns c = λ m. simp (c.refused-2.ensures, le-ltb _ _ c.if-kind-gt2.false, sym c.fits_access.ensures ∙ c.if-fits_access.false)
+returns c =
+    λ m. let k = of_ok _ _ _ (sym c.in_ok-purpose.ensures) in
+    simp (c.accepted.ensures, c.from.ensures, c.verdict-verdict.ensures, c.is_privileged.ensures, to_z-of_z c.ranges.limit, k.0, k.1, sym c.fits_access.ensures ∙ c.if-not-fits_access.false, sym c.is_aligned.ensures ∙ c.if-not-is_aligned.false)

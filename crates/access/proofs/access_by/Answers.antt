@@ -6,7 +6,7 @@ use Rattle.access.proofs.access_by.Goals as goal
 
 pub returns-then-is_armv6m : goal.returns-then-is_armv6m
 unfolding access_by
-returns-then-is_armv6m c = λ m. simp (c.refused.ensures, sym c.is_armv6m.ensures ∙ c.if-is_armv6m.true)
+returns-then-is_armv6m c = λ m. simp (sym c.is_armv6m.ensures ∙ c.if-is_armv6m.true)
 
 pub returns : goal.returns
 unfolding access_by

@@ -5,11 +5,11 @@ use Rattle.control.proofs.set_or_clear.Goals as goal
 
 pub returns-then-clears : goal.returns-then-clears
 unfolding set_or_clear
-returns-then-clears c = c.store_flag.ensures ∙ simp c.if-clears.true
+returns-then-clears c = c.store.ensures ∙ simp c.if-clears.true
 
 pub returns-then-sets : goal.returns-then-sets
 unfolding set_or_clear
-returns-then-sets c = c.store_flag-then-sets.ensures ∙ simp (c.if-clears.false, c.if-sets.true)
+returns-then-sets c = c.store-then-sets.ensures ∙ simp (c.if-clears.false, c.if-sets.true)
 
 pub returns-else-sets : goal.returns-else-sets
 unfolding set_or_clear

@@ -5,4 +5,4 @@ use Rattle.control.proofs.syshndctrl_written.Goals as goal
 
 pub returns : goal.returns
 unfolding syshndctrl_written
-returns c = c.store_flag-3.ensures ∙ simp (c.test_bit-3.ensures, c.store_flag-2.ensures, c.test_bit-2.ensures, c.store_flag.ensures, c.test_bit.ensures)
+returns c = c.store-3.ensures ∙ simp (c.test_bit-3.ensures, c.store-2.ensures, c.test_bit-2.ensures, c.store.ensures, c.test_bit.ensures)

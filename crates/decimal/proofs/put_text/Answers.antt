@@ -1,21 +1,20 @@
--- The invariant: the first i bytes of the text are written.
-use Prim.Native.Nat.{ℕ, ◌+◌}
-use mathlib.Core.Path.{refl, sym, ap, ◌∙◌}
-use mathlib.Core.List.{List}
+-- The part that the text is copied to ends where the text ends.
+use Prim.Native.Nat.{ℕ, ◌+◌, ◌-◌}
+use mathlib.Core.Path.{◌≡◌, refl, sym, ap, ◌∙◌}
+use mathlib.Core.List.{List, ◌++◌, append_assoc}
 use native.Mathlib.Omega.{arith}
-use lib.ListN.{get_or, set, length-set}
-use Rattle.decimal.specs.Written.{written_nil, written_next}
+use lib.ListN.{length, take, drop}
+use borrow.Rule.Slice.PartMut.{put_mid, Post-is}
+use Rattle.decimal.specs.Written.{written}
 use Rattle.decimal.proofs.put_text.Goals as goal
 
-pub loop-i-init : goal.loop-i-init
-loop-i-init c = (omega arith, (refl, sym (written_nil _ _)))
-
-pub loop-i-preserved : goal.loop-i-preserved
-loop-i-preserved c = (
-  omega arith,
-  (
-    length-set c.loop-i.out _ _ ∙ c.loop-i.invariant.1.0,
-    ap (λ (x : List ℕ). set x (c.args.at + c.loop-i.i) (get_or c.args.text.now c.loop-i.i 0)) c.loop-i.invariant.1.1
-        ∙ written_next c.args.at c.loop-i.i c.args.text.now c.args.out.now (omega arith) (omega arith),
-  ),
-)
+pub returns : goal.returns
+unfolding written
+returns c = record {
+  next_is = refl;
+  bytes =
+      let e = c.args.at + length c.args.text.now in
+      ap (put_mid c.args.at (e - c.args.at) c.args.out.now) c.copy_from_slice.ensures.after
+      ∙ ap (λ (r : List ℕ). take c.args.at c.args.out.now ++ (c.args.text.now ++ r)) (Post-is c.args.at e c.args.out.now (omega arith))
+      ∙ sym (append_assoc (take c.args.at c.args.out.now) c.args.text.now (drop e c.args.out.now));
+}

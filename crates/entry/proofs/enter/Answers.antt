@@ -3,6 +3,6 @@ use native.Mathlib.Numerals.{add-one}
 use Rattle.rules.specs.Nesting.{entered}
 use Rattle.entry.proofs.enter.Goals as goal
 
-pub returns : goal.returns
+pub returns-clause-answer : goal.returns-clause-answer
 unfolding entered
-returns c = λ m. simp (c.with_spsel-next.ensures, c.store_byte.ensures, c.store_flag-2.ensures, c.store_flag.ensures, c.link_of-link.ensures, add-one)
+returns-clause-answer c = simp (c.with_spsel-state.ensures, c.store-3.ensures, c.store-2.ensures, c.store.ensures, c.link_of.ensures, add-one)

@@ -5,18 +5,17 @@ use mir.Facts.{to_z-of_z}
 use Rattle.priority.specs.Order.{flag_below}
 use Rattle.priority.specs.Laws.{pending_best}
 use Rattle.rules.specs.Nesting.{entry_at}
-use Rattle.rules.specs.Model.{with_enabled, with_priority}
 use Rattle.entry.proofs.entry.Goals as goal
 
 pub enter-requires : goal.enter-requires
 enter-requires c =
-    let b = flag_below c.args.pending.now c.in-At.n (pending_best c.args.core.group c.args.priority.now c.args.pending.now c.args.enabled.now c.args.limit c.in-At.n (simp (to_z-of_z c.ranges.limit) at (sym c.best_pending-found.ensures ∙ c.in-At.is))).able.pends in
+    let b = flag_below c.args.state.now.pending.now c.in-Some.n (pending_best c.args.state.now.core.group c.args.state.now.priority.now c.args.state.now.pending.now c.args.state.now.enabled.now c.args.limit c.in-Some.n (simp (to_z-of_z c.ranges.limit) at (sym c.chosen-found.ensures ∙ c.in-Some.is))).able.pends in
     (omega (arith, b, c.requires.0), c.requires.1)
 
-pub returns-in-At : goal.returns-in-At
+pub returns-in-Some-clause-answer : goal.returns-in-Some-clause-answer
 unfolding entry_at
-returns-in-At c = λ m. c.enter.ensures (with_priority _ (with_enabled _ m)) ∙ simp (simp (to_z-of_z c.ranges.limit) at (sym c.best_pending-found.ensures ∙ c.in-At.is))
+returns-in-Some-clause-answer c = c.enter.ensures.answer ∙ simp (simp (to_z-of_z c.ranges.limit) at (sym c.chosen-found.ensures ∙ c.in-Some.is))
 
-pub returns-in-Nothing : goal.returns-in-Nothing
+pub returns-in-None-clause-answer : goal.returns-in-None-clause-answer
 unfolding entry_at
-returns-in-Nothing c = λ m. simp (c.refused.ensures, simp (to_z-of_z c.ranges.limit) at (sym c.best_pending-found.ensures ∙ c.in-Nothing.is))
+returns-in-None-clause-answer c = simp (simp (to_z-of_z c.ranges.limit) at (sym c.chosen-found.ensures ∙ c.in-None.is))

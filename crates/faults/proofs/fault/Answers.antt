@@ -6,12 +6,12 @@ use Rattle.faults.proofs.Laws.{fault_bounds}
 use Rattle.faults.proofs.fault.Goals as goal
 
 pub fault_at-requires : goal.fault_at-requires
-fault_at-requires c = fault_bounds _ _ (sym c.fault_exception-found.ensures ∙ c.in-At.is)
+fault_at-requires c = fault_bounds _ _ (sym c.fault_exception-found.ensures ∙ c.in-Some.is)
 
-pub returns-in-At : goal.returns-in-At
+pub returns-in-Some-clause-answer : goal.returns-in-Some-clause-answer
 unfolding fault_at
-returns-in-At c = λ m. c.fault_at.ensures m ∙ simp (to_z-of_z c.ranges.limit, sym c.fault_exception-found.ensures ∙ c.in-At.is)
+returns-in-Some-clause-answer c = c.fault_at.ensures.answer ∙ simp (to_z-of_z c.ranges.limit, sym c.fault_exception-found.ensures ∙ c.in-Some.is)
 
-pub returns-in-Nothing : goal.returns-in-Nothing
+pub returns-in-None-clause-answer : goal.returns-in-None-clause-answer
 unfolding fault_at
-returns-in-Nothing c = λ m. simp (c.refused.ensures, sym c.fault_exception-found.ensures ∙ c.in-Nothing.is)
+returns-in-None-clause-answer c = simp (sym c.fault_exception-found.ensures ∙ c.in-None.is)

@@ -4,10 +4,11 @@ use mir.Facts.{to_z-of_z}
 use Rattle.rules.specs.Events.{escalates, raised}
 use Rattle.faults.proofs.raised.Goals as goal
 
-pub returns-then-escalates : goal.returns-then-escalates
+pub returns-then-escalates-clause-answer : goal.returns-then-escalates-clause-answer
 unfolding raised escalates
-returns-then-escalates c = λ m. simp (c.accepted.ensures, c.store_flag.ensures, c.noted-forced.ensures, c.forced.ensures, simp (to_z-of_z c.ranges.limit) at (sym c.escalates.ensures ∙ c.if-escalates.true))
+returns-then-escalates-clause-answer c =
+    simp (c.accepted.ensures, c.store.ensures, c.noted-state.ensures, c.forced-forced.ensures, simp (to_z-of_z c.ranges.limit) at (sym c.escalates.ensures ∙ c.if-escalates.true))
 
-pub returns : goal.returns
+pub returns-clause-answer : goal.returns-clause-answer
 unfolding raised escalates
-returns c = λ m. simp (c.accepted-2.ensures, c.store_flag-2.ensures, c.noted-core.ensures, simp (to_z-of_z c.ranges.limit) at (sym c.escalates.ensures ∙ c.if-escalates.false))
+returns-clause-answer c = simp (c.accepted-2.ensures, c.store-2.ensures, c.noted-state-2.ensures, simp (to_z-of_z c.ranges.limit) at (sym c.escalates.ensures ∙ c.if-escalates.false))

@@ -6,7 +6,4 @@ use Rattle.flag_words.specs.Flags.{some_flag}
 use Rattle.flag_words.proofs.any_flag.Given as goal
 
 abbrev pub invariant-loop-i : goal.invariant-loop-i
-invariant-loop-i l = (l.at ≤ l.i) × ((l.i - l.at ≤ length l.flags - l.at) × (l.any ≡ some_flag l.flags l.at (l.i - l.at)))
-
-abbrev pub decreases-loop-i : goal.decreases-loop-i
-decreases-loop-i l = length l.flags - l.i
+invariant-loop-i l = (l.i - l.at ≤ length l.flags - l.at) × (l.any ≡ some_flag l.flags l.at (l.i - l.at))

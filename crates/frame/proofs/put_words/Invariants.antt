@@ -1,5 +1,5 @@
 -- The words put so far stand at the front; the rest is as it was, and nothing is left of it at the end.
-use Prim.Native.Nat.{◌≤◌, ◌-◌, ◌*◌}
+use Prim.Native.Nat.{◌*◌}
 use mathlib.Core.Path.{◌≡◌}
 use mathlib.Core.List.{◌++◌}
 use lib.ListN.{length, take, drop}
@@ -7,7 +7,4 @@ use Rattle.frame.specs.Frame.{frame_bytes}
 use Rattle.frame.proofs.put_words.Given as goal
 
 abbrev pub invariant-loop-k : goal.invariant-loop-k
-invariant-loop-k l = (l.k ≤ 8) × ((length l.words ≡ 8) × ((length l.part ≡ 32) × (l.part ≡ frame_bytes (take l.k l.words) ++ drop (4 * l.k) l.initial.part)))
-
-abbrev pub decreases-loop-k : goal.decreases-loop-k
-decreases-loop-k l = 8 - l.k
+invariant-loop-k l = (length l.words ≡ 8) × ((length l.part ≡ 32) × (l.part ≡ frame_bytes (take l.k l.words) ++ drop (4 * l.k) l.initial.part))

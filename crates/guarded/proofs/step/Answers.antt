@@ -9,12 +9,12 @@ use Rattle.guarded.proofs.Laws.{tested, misfit, refuses, passes}
 use mir.Syntax.{w32}
 use Rattle.guarded.proofs.step.Goals as goal
 
-pub returns-then-not-fits : goal.returns-then-not-fits
-returns-then-not-fits c = rw c.refused.ensures (misfit _ _ _ (sym c.fits.ensures ∙ c.if-not-fits.true))
+pub returns-then-not-fits-clause-answer : goal.returns-then-not-fits-clause-answer
+returns-then-not-fits-clause-answer c = misfit _ _ _ (sym c.fits.ensures ∙ c.if-not-fits.true)
 
-pub returns-then-not-is_sound : goal.returns-then-not-is_sound
-returns-then-not-is_sound c =
-    rw c.refused-then-not-is_sound.ensures (refuses _ _ _ (sym c.fits.ensures ∙ c.if-not-fits.false) (sym c.is_sound.ensures ∙ c.if-not-is_sound.true))
+pub returns-then-not-is_sound-clause-answer : goal.returns-then-not-is_sound-clause-answer
+returns-then-not-is_sound-clause-answer c =
+    refuses _ _ _ (sym c.fits.ensures ∙ c.if-not-fits.false) (sym c.is_sound.ensures ∙ c.if-not-is_sound.true)
 
 pub execution-limit-requires : goal.execution-limit-requires
 execution-limit-requires c =
@@ -28,6 +28,6 @@ act-requires c =
     let s = tested _ _ (sym c.is_sound.ensures ∙ c.if-not-is_sound.false) in
     record { lines = c.requires.lines; sound = s; priority = to_z-of_z {w = w32} (search rules) ∙ c.execution-limit.ensures ∙ execution_nest s }
 
-pub returns : goal.returns
-returns c =
-    c.act.ensures ∙ passes _ _ _ (sym c.fits.ensures ∙ c.if-not-fits.false) (sym c.is_sound.ensures ∙ c.if-not-is_sound.false)
+pub returns-clause-answer : goal.returns-clause-answer
+returns-clause-answer c =
+    c.act.ensures.answer ∙ passes _ _ _ (sym c.fits.ensures ∙ c.if-not-fits.false) (sym c.is_sound.ensures ∙ c.if-not-is_sound.false)

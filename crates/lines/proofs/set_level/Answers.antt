@@ -1,17 +1,12 @@
--- By the definition's own tests.
+-- By the definition's own test.
 use mathlib.Core.Path.{◌∙◌, sym}
 use Rattle.rules.specs.Events.{levelled}
 use Rattle.lines.proofs.set_level.Goals as goal
 
-pub returns-then-flag_at : goal.returns-then-flag_at
+pub returns-then-rises-clause-levels : goal.returns-then-rises-clause-levels
 unfolding levelled
-returns-then-flag_at c = λ m. simp (c.store_flag.ensures, c.if-high.true, sym c.flag_at.ensures ∙ c.if-flag_at.true)
+returns-then-rises-clause-levels c = simp (c.store-then-rises.ensures, c.store.ensures, sym c.rises.ensures ∙ c.if-rises.true)
 
-pub returns-then-high : goal.returns-then-high
+pub returns-clause-levels : goal.returns-clause-levels
 unfolding levelled
-returns-then-high c =
-    λ m. simp (c.store_flag-then-high-2.ensures, c.store_flag-then-high.ensures, c.if-high.true, sym c.flag_at.ensures ∙ c.if-flag_at.false)
-
-pub returns : goal.returns
-unfolding levelled
-returns c = λ m. simp (c.store_flag-2.ensures, c.if-high.false)
+returns-clause-levels c = simp (c.store-2.ensures, sym c.rises.ensures ∙ c.if-rises.false)

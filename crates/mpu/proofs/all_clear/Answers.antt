@@ -1,15 +1,15 @@
--- The loop has tested the words passed; the measure is what is left of them.
-use mathlib.Core.Path.{◌∙◌, refl}
+-- The loop has tested the words passed.
+use mathlib.Core.Path.{refl}
 use native.Mathlib.Numerals.{add-one}
-use native.Mathlib.Omega.{arith}
+use Rattle.std.proofs.Math.Bool.{and_comm}
 use Rattle.bools.specs.Every.{every}
 use Rattle.mpu.specs.Unused.{zero_at}
 use Rattle.mpu.proofs.all_clear.Goals as goal
 
-pub loop-i-init : goal.loop-i-init
+pub loop-word-init : goal.loop-word-init
 unfolding every
-loop-i-init c = (omega arith, refl)
+loop-word-init c = refl
 
-pub loop-i-preserved : goal.loop-i-preserved
+pub loop-word-preserved : goal.loop-word-preserved
 unfolding every zero_at
-loop-i-preserved c = (omega arith, c.both-ok.ensures ∙ simp (add-one, c.loop-i.invariant.1))
+loop-word-preserved c = rw and_comm (simp (add-one, c.loop-word.invariant))

@@ -8,4 +8,4 @@ returns-then-script-p c = rw c.finished.ensures (closed_end c.requires c.if-scri
 
 pub returns : goal.returns
 returns c =
-    rw c.finished-2.ensures (closed_broken c.requires (omega arith) c.put_broken.result c.put_broken.new.out c.put_broken.ensures.puts (omega arith))
+    rw c.finished-2.ensures (closed_broken c.requires (omega arith) c.put_broken.result c.put_broken.new.out (rw c.from-number.ensures at c.put_broken.ensures.puts) (omega arith))

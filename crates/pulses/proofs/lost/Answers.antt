@@ -5,8 +5,8 @@ use Rattle.pulses.proofs.lost.Goals as goal
 
 pub returns-then-chip-line : goal.returns-then-chip-line
 unfolding lost_call
-returns-then-chip-line c = λ m. simp (c.refused.ensures, le-leb _ _ c.if-chip-line.true)
+returns-then-chip-line c = simp (le-leb _ _ c.if-chip-line.true)
 
 pub returns : goal.returns
 unfolding lost_call
-returns c = λ m. simp (c.accepted.ensures, c.count_at.ensures, lt-leb _ _ c.if-chip-line.false)
+returns c = simp (c.accepted.ensures, c.at_or.ensures, lt-leb _ _ c.if-chip-line.false)

@@ -2,26 +2,26 @@
 use Rattle.rules.specs.Reads.{after_read}
 use Rattle.reads.proofs.after_read.Goals as goal
 
-pub returns-in-Missing : goal.returns-in-Missing
+pub returns-in-Missing-clause-reads : goal.returns-in-Missing-clause-reads
 unfolding after_read
-returns-in-Missing c = λ m. simp c.in-Missing.is
+returns-in-Missing-clause-reads c = simp c.in-Missing.is
 
-pub returns-in-Flags : goal.returns-in-Flags
+pub returns-in-Flags-clause-reads : goal.returns-in-Flags-clause-reads
 unfolding after_read
-returns-in-Flags c = λ m. simp c.in-Flags.is
+returns-in-Flags-clause-reads c = simp c.in-Flags.is
 
-pub returns-in-Priority : goal.returns-in-Priority
+pub returns-in-Priority-clause-reads : goal.returns-in-Priority-clause-reads
 unfolding after_read
-returns-in-Priority c = λ m. simp c.in-Priority.is
+returns-in-Priority-clause-reads c = simp c.in-Priority.is
 
-pub returns-in-System : goal.returns-in-System
+pub returns-in-System-clause-reads : goal.returns-in-System-clause-reads
 unfolding after_read
-returns-in-System c = λ m. simp c.in-System.is
+returns-in-System-clause-reads c = simp c.in-System.is
 
-pub returns-in-Guard : goal.returns-in-Guard
+pub returns-in-Guard-clause-reads : goal.returns-in-Guard-clause-reads
 unfolding after_read
-returns-in-Guard c = λ m. simp c.in-Guard.is
+returns-in-Guard-clause-reads c = simp c.in-Guard.is
 
-pub returns-in-Constant : goal.returns-in-Constant
+pub returns-in-Constant-clause-reads : goal.returns-in-Constant-clause-reads
 unfolding after_read
-returns-in-Constant c = λ m. simp c.in-Constant.is
+returns-in-Constant-clause-reads c = simp c.in-Constant.is

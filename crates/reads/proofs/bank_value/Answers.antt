@@ -5,20 +5,20 @@ use Rattle.reads.proofs.bank_value.Goals as goal
 
 pub returns-in-EnableSet : goal.returns-in-EnableSet
 unfolding bank_value
-returns-in-EnableSet c = λ m. c.flags_word.ensures ∙ simp c.in-EnableSet.is
+returns-in-EnableSet c = c.flags_word.ensures ∙ simp c.in-EnableSet.is
 
 pub returns-in-EnableClear : goal.returns-in-EnableClear
 unfolding bank_value
-returns-in-EnableClear c = λ m. c.flags_word-in-EnableClear.ensures ∙ simp c.in-EnableClear.is
+returns-in-EnableClear c = c.flags_word-in-EnableClear.ensures ∙ simp c.in-EnableClear.is
 
 pub returns-in-PendingSet : goal.returns-in-PendingSet
 unfolding bank_value
-returns-in-PendingSet c = λ m. c.flags_word-in-PendingSet.ensures ∙ simp c.in-PendingSet.is
+returns-in-PendingSet c = c.flags_word-in-PendingSet.ensures ∙ simp c.in-PendingSet.is
 
 pub returns-in-PendingClear : goal.returns-in-PendingClear
 unfolding bank_value
-returns-in-PendingClear c = λ m. c.flags_word-in-PendingClear.ensures ∙ simp c.in-PendingClear.is
+returns-in-PendingClear c = c.flags_word-in-PendingClear.ensures ∙ simp c.in-PendingClear.is
 
 pub returns-in-Active : goal.returns-in-Active
 unfolding bank_value
-returns-in-Active c = λ m. c.flags_word-in-Active.ensures ∙ simp c.in-Active.is
+returns-in-Active c = c.flags_word-in-Active.ensures ∙ simp c.in-Active.is

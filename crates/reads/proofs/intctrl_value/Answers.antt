@@ -5,4 +5,4 @@ use Rattle.reads.proofs.intctrl_value.Goals as goal
 
 pub returns : goal.returns
 unfolding shows_base
-returns c = c.intctrl_value.ensures ∙ simp (c.top_of.ensures, c.both-base.ensures, c.is_armv6m.ensures)
+returns c = c.intctrl_value.ensures ∙ simp (c.newest.ensures.0, c.both-base.ensures, c.is_armv6m.ensures)

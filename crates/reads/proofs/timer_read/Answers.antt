@@ -2,6 +2,6 @@
 use Rattle.rules.specs.Reads.{after_read}
 use Rattle.reads.proofs.timer_read.Goals as goal
 
-pub returns : goal.returns
+pub returns-clause-reads : goal.returns-clause-reads
 unfolding after_read
-returns c = λ m. simp c.timer_read-next.ensures
+returns-clause-reads c = simp c.timer_read-state.ensures

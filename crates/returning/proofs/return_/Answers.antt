@@ -6,17 +6,17 @@ use Rattle.rules.specs.Nesting.{return_call}
 use Rattle.rules.proofs.Laws.{link_deep}
 use Rattle.returning.proofs.return_.Goals as goal
 
-pub overflow_sub-core : goal.overflow_sub-core
-overflow_sub-core c = link_deep _ c.args.value (is_true (sym c.link_fits.ensures ∙ c.if-link_fits.true))
+pub overflow_sub-depth : goal.overflow_sub-depth
+overflow_sub-depth c = link_deep _ c.args.value (is_true (sym c.link_fits.ensures ∙ c.if-link_fits.true))
 
-pub leave-next-requires : goal.leave-next-requires
-leave-next-requires c = link_deep _ c.args.value (is_true (sym c.link_fits.ensures ∙ c.if-link_fits.true))
+pub leave-requires : goal.leave-requires
+leave-requires c = link_deep _ c.args.value (is_true (sym c.link_fits.ensures ∙ c.if-link_fits.true))
 
-pub returns-then-link_fits : goal.returns-then-link_fits
+pub returns-then-link_fits-clause-answer : goal.returns-then-link_fits-clause-answer
 unfolding return_call
-returns-then-link_fits c =
-    λ m. simp (c.accepted.ensures, c.leave-next.ensures m, c.top_of-newest.ensures, sym c.link_fits.ensures ∙ c.if-link_fits.true, sub_one)
+returns-then-link_fits-clause-answer c =
+    simp (c.accepted.ensures, c.leave.ensures.left, c.newest-next.ensures, sym c.link_fits.ensures ∙ c.if-link_fits.true, sub_one)
 
-pub returns : goal.returns
+pub returns-clause-answer : goal.returns-clause-answer
 unfolding return_call
-returns c = λ m. simp (c.refused.ensures, sym c.link_fits.ensures ∙ c.if-link_fits.false)
+returns-clause-answer c = simp (sym c.link_fits.ensures ∙ c.if-link_fits.false)

@@ -1,13 +1,19 @@
 -- Each event's line is written before the next is read (`Going`), until no line has room or no event can be read.
 use Prim.Native.Nat.{◌+◌, ◌≤◌}
-use mathlib.Core.Path.{refl, sym, subst, ◌∙◌}
+use mathlib.Core.Path.{◌≡◌, refl, sym, subst, ◌∙◌}
 use native.Mathlib.Omega.{arith}
 use lib.ListN.{length}
 use mir.Facts.{to_z-of_z}
 use mir.Syntax.{w32}
 use Rattle.decimal.specs.Decimal.{line_room}
-use Rattle.rules.specs.Lent.{model_of, answer}
-use Rattle.rules.specs.Model.{Answer}
+use Rattle.parts.specs.Numbers.{numbers}
+use Rattle.parts.proofs.Laws.{beside, answered}
+use Rattle.rules.specs.declared.Lent.{Lent}
+use Rattle.rules.specs.declared.Chip.{Chip}
+use Rattle.rules.specs.Lent.{SameLoan, view}
+use Rattle.rules.specs.Model.{Model, Answer}
+use Rattle.rules.specs.Step.{act_of}
+use Rattle.script.specs.declared.Event.{Event}
 use Rattle.rules.specs.Sound.{Sound}
 use Rattle.demand3.proofs.Check.{depth_fits}
 use Rattle.demand3.proofs.Nesting.{execution_nest}
@@ -17,6 +23,22 @@ use Rattle.pieces.proofs.Loop.{going_first, going_next}
 use Rattle.pieces.proofs.Promise.{usable_of, ran_full, ran_closed}
 use borrow.Author.Rules.{rules}
 use Rattle.running.proofs.run_events.Goals as goal
+
+-- what an event leaves is sound again
+after : {c : Chip} {m : Model} → Sound c m → (e : Event) (a : Answer) → a ≡ act_of c m e → Sound c a.next
+after {c} {m} s e a q = subst (λ (a : Answer). Sound c a.next) (sym q) (act_sound s e)
+
+through : {s t u : Lent} → SameLoan s t → SameLoan t u → SameLoan s u
+through a b =
+    record {
+      pending = b.pending ∙ a.pending;
+      active = b.active ∙ a.active;
+      enabled = b.enabled ∙ a.enabled;
+      level = b.level ∙ a.level;
+      priority = b.priority ∙ a.priority;
+      nest = b.nest ∙ a.nest;
+      lost = b.lost ∙ a.lost;
+    }
 
 pub execution-limit-requires : goal.execution-limit-requires
 execution-limit-requires c =
@@ -28,22 +50,21 @@ execution-limit-requires c =
 pub loop-out-init : goal.loop-out-init
 loop-out-init c =
     let u = usable_of _ _ _ c.requires.1.tested in
-    (going_first _ _ _ _ _ _ u.sound u.counted, to_z-of_z {w = w32} (search rules) ∙ c.execution-limit.ensures ∙ execution_nest u.sound)
+    (going_first _ _ _ _ _ _ u.sound u.counted, (to_z-of_z {w = w32} (search rules) ∙ c.execution-limit.ensures ∙ execution_nest u.sound, search rules))
 
-pub returns-in-Refused : goal.returns-in-Refused
-returns-in-Refused c =
+pub returns-in-Err-clause-ran : goal.returns-in-Err-clause-ran
+returns-in-Err-clause-ran c =
     let h : c.loop-out.wrote + line_room ≤ length c.loop-out.out = omega (arith, c.loop-out-test.true, c.loop-out.invariant.0.within, c.loop-out.invariant.0.sized) in
-    ran_closed c.requires.1 c.loop-out.invariant.0 (omega arith) _ _ (rw c.going.ensures at c.close.ensures)
+    ran_closed c.requires.1 c.loop-out.invariant.0 (omega arith) _ _ (rw c.going-course.ensures at c.close.ensures)
 
 pub overflow_add-events : goal.overflow_add-events
 overflow_add-events c =
-    let o : One c.args.script.now c.loop-out.at c.in-Found.event c.in-Found.next = one_of _ c.requires.1.short (λ i. omega (arith, c.type_inv.script i)) _ _ _ (sym c.read_event.ensures.value ∙ c.in-Found.is) in
+    let o : One c.args.script.now c.loop-out.at c.in-Ok.event c.in-Ok.next = one_of _ c.requires.1.short (λ i. omega (arith, c.type_inv.script i)) _ _ _ (sym c.read_event.ensures.value ∙ c.in-Ok.is) in
     omega (arith, o.forward, o.inside, c.loop-out.invariant.0.counted, c.requires.1.short)
 
 pub put_answer-line-requires : goal.put_answer-line-requires
 put_answer-line-requires c =
-    let after = answer c.act-done.result (model_of c.act-done.new.pending c.act-done.new.active c.act-done.new.enabled c.act-done.new.level c.act-done.new.priority c.act-done.new.nest c.act-done.new.lost c.act-done.result.core) in
-    let s : Sound c.args.chip after.next = subst (λ (a : Answer). Sound c.args.chip a.next) (sym c.act-done.ensures) (act_sound c.loop-out.invariant.0.sound c.in-Found.event) in
+    let s = after c.loop-out.invariant.0.sound c.in-Ok.event _ (sym (answered c.act-outcome.result (view c.act-outcome.new.state)) ∙ c.act-outcome.ensures.answer) in
     let d = depth_fits s in
     let l = s.places.size in
     let h : c.loop-out.wrote + line_room ≤ length c.loop-out.out = omega (arith, c.loop-out-test.true, c.loop-out.invariant.0.within, c.loop-out.invariant.0.sized) in
@@ -51,18 +72,20 @@ put_answer-line-requires c =
 
 pub loop-out-smaller : goal.loop-out-smaller
 loop-out-smaller c =
-    let o : One c.args.script.now c.loop-out.at c.in-Found.event c.in-Found.next = one_of _ c.requires.1.short (λ i. omega (arith, c.type_inv.script i)) _ _ _ (sym c.read_event.ensures.value ∙ c.in-Found.is) in
+    let o : One c.args.script.now c.loop-out.at c.in-Ok.event c.in-Ok.next = one_of _ c.requires.1.short (λ i. omega (arith, c.type_inv.script i)) _ _ _ (sym c.read_event.ensures.value ∙ c.in-Ok.is) in
     omega (arith, o.forward, o.inside)
 
 pub loop-out-preserved : goal.loop-out-preserved
 loop-out-preserved c =
-    let o : One c.args.script.now c.loop-out.at c.in-Found.event c.in-Found.next = one_of _ c.requires.1.short (λ i. omega (arith, c.type_inv.script i)) _ _ _ (sym c.read_event.ensures.value ∙ c.in-Found.is) in
-    let after = answer c.act-done.result (model_of c.act-done.new.pending c.act-done.new.active c.act-done.new.enabled c.act-done.new.level c.act-done.new.priority c.act-done.new.nest c.act-done.new.lost c.act-done.result.core) in
-    let s : Sound c.args.chip after.next = subst (λ (a : Answer). Sound c.args.chip a.next) (sym c.act-done.ensures) (act_sound c.loop-out.invariant.0.sound c.in-Found.event) in
-    let x = c.put_answer-line.ensures.priority ∙ execution_nest s in
-    let h : c.loop-out.wrote + line_room ≤ length c.loop-out.out = omega (arith, c.loop-out-test.true, c.loop-out.invariant.0.within, c.loop-out.invariant.0.sized) in
-    (going_next c.loop-out.invariant.0 c.requires.1.fit _ _ o after c.act-done.ensures _ refl _ x _ _ h c.put_answer-line.ensures.line c.put_answer-line.ensures.within, to_z-of_z {w = w32} (search rules) ∙ x)
+    let o : One c.args.script.now c.loop-out.at c.in-Ok.event c.in-Ok.next = one_of _ c.requires.1.short (λ i. omega (arith, c.type_inv.script i)) _ _ _ (sym c.read_event.ensures.value ∙ c.in-Ok.is) in
+    let a : Answer = beside (numbers c.act-outcome.result) (view c.act-outcome.new.state) in
+    let q : a ≡ act_of c.args.chip (view c.loop-out.state) c.in-Ok.event = sym (answered c.act-outcome.result (view c.act-outcome.new.state)) ∙ c.act-outcome.ensures.answer in
+    let x = c.put_answer-line.ensures.priority ∙ execution_nest (after c.loop-out.invariant.0.sound c.in-Ok.event a q) in
+    let h : c.loop-out.wrote + line_room ≤ length c.loop-out.out = omega (arith, c.loop-out-test.true, c.loop-out.invariant.0.within, c.loop-out.invariant.0.sized) in (
+      going_next c.loop-out.invariant.0 c.requires.1.fit _ _ o a q _ refl _ x _ _ h c.put_answer-line.ensures.line c.put_answer-line.ensures.within,
+      (to_z-of_z {w = w32} (search rules) ∙ x, through c.loop-out.invariant.1.1 c.act-outcome.ensures.loan),
+    )
 
-pub returns : goal.returns
-returns c =
-    rw c.going-2.ensures (ran_full c.requires.1 c.loop-out.invariant.0 (omega (arith, c.loop-out-test.false)))
+pub returns-clause-ran : goal.returns-clause-ran
+returns-clause-ran c =
+    rw c.going.ensures (ran_full c.requires.1 c.loop-out.invariant.0 (omega (arith, c.loop-out-test.false)))

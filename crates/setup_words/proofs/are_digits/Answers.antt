@@ -1,19 +1,12 @@
--- Each byte passed is a digit (`digits-next`).
-use mathlib.Core.Path.{◌≡◌, sym, ◌∙◌}
-use native.Mathlib.Omega.{arith}
-use lib.ListN.{length}
-use Rattle.setup_words.proofs.Laws.{digits_next, digits_fail, digits_all}
+-- A test of every byte is `are_digits`.
+use Rattle.std.proofs.Common.{◌∙◌, rules}
+use Rattle.std.proofs.lemmas.Iterator.{YieldsList-from_slice}
+use Rattle.std.proofs.lemmas.Iterator.Search.{all_from_yields_List}
+use Rattle.setup_words.specs.Words.{is_digit}
+use Rattle.setup_words.proofs.Laws.{all_digits}
 use Rattle.setup_words.proofs.are_digits.Goals as goal
-
-pub returns-then-not-is_digit : goal.returns-then-not-is_digit
-returns-then-not-is_digit c =
-    sym (digits_fail _ c.loop-i.i (omega arith) c.loop-i.invariant.1 (sym c.is_digit.ensures ∙ c.if-not-is_digit.true))
-
-pub loop-i-preserved : goal.loop-i-preserved
-loop-i-preserved c =
-    (omega arith, digits_next _ c.loop-i.i (omega arith) c.loop-i.invariant.1 (sym c.is_digit.ensures ∙ c.if-not-is_digit.false))
 
 pub returns : goal.returns
 returns c =
-    let e : c.loop-i.i ≡ length c.args.bytes.now = omega arith in
-    sym (digits_all _ (rw e at c.loop-i.invariant.1))
+    all_from_yields_List is_digit _ _ _ c.all.ensures.ran (YieldsList-from_slice c.args.bytes.now cc) (λ x b q k. search rules)
+    ∙ all_digits _

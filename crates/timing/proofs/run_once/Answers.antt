@@ -5,6 +5,6 @@ use Rattle.timing.proofs.run_once.Goals as goal
 
 pub loop-at-smaller : goal.loop-at-smaller
 loop-at-smaller c =
-    let e : EventRead c.args.script.now c.loop-at.at c.in-Found.event c.in-Found.next =
-    event_read _ _ _ _ (λ i. omega (arith, c.type_inv.script i)) (sym c.read_event.ensures.value ∙ c.in-Found.is) in
+    let e : EventRead c.args.script.now c.loop-at.at c.in-Ok.event c.in-Ok.next =
+    event_read _ _ _ _ (λ i. omega (arith, c.type_inv.script i)) (sym c.read_event.ensures.value ∙ c.in-Ok.is) in
     omega (arith, e.forward)

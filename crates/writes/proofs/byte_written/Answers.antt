@@ -2,30 +2,30 @@
 use Rattle.rules.specs.Writes.{byte_written}
 use Rattle.writes.proofs.byte_written.Goals as goal
 
-pub returns-in-Missing : goal.returns-in-Missing
+pub returns-in-Missing-clause-writes : goal.returns-in-Missing-clause-writes
 unfolding byte_written
-returns-in-Missing c = λ m. simp c.in-Missing.is
+returns-in-Missing-clause-writes c = simp c.in-Missing.is
 
-pub returns-in-Timer : goal.returns-in-Timer
+pub returns-in-Timer-clause-writes : goal.returns-in-Timer-clause-writes
 unfolding byte_written
-returns-in-Timer c = λ m. simp c.in-Timer.is
+returns-in-Timer-clause-writes c = simp c.in-Timer.is
 
-pub returns-in-Flags : goal.returns-in-Flags
+pub returns-in-Flags-clause-writes : goal.returns-in-Flags-clause-writes
 unfolding byte_written
-returns-in-Flags c = λ m. simp c.in-Flags.is
+returns-in-Flags-clause-writes c = simp c.in-Flags.is
 
-pub returns-in-Priority : goal.returns-in-Priority
+pub returns-in-Priority-clause-writes : goal.returns-in-Priority-clause-writes
 unfolding byte_written
-returns-in-Priority c = λ m. simp (c.put_byte_after.ensures, c.in-Priority.is)
+returns-in-Priority-clause-writes c = simp (c.put_byte_after.ensures, c.in-Priority.is)
 
-pub returns-in-System : goal.returns-in-System
+pub returns-in-System-clause-writes : goal.returns-in-System-clause-writes
 unfolding byte_written
-returns-in-System c = λ m. simp c.in-System.is
+returns-in-System-clause-writes c = simp c.in-System.is
 
-pub returns-in-Guard : goal.returns-in-Guard
+pub returns-in-Guard-clause-writes : goal.returns-in-Guard-clause-writes
 unfolding byte_written
-returns-in-Guard c = λ m. simp c.in-Guard.is
+returns-in-Guard-clause-writes c = simp c.in-Guard.is
 
-pub returns-in-Constant : goal.returns-in-Constant
+pub returns-in-Constant-clause-writes : goal.returns-in-Constant-clause-writes
 unfolding byte_written
-returns-in-Constant c = λ m. simp c.in-Constant.is
+returns-in-Constant-clause-writes c = simp c.in-Constant.is

@@ -1,57 +1,56 @@
 -- Each register by its own clause.
 use mathlib.Core.Path.{◌∙◌}
 use Rattle.rules.specs.Writes.{system_written}
-use Rattle.rules.specs.Model.{with_enabled, with_pending}
 use Rattle.writes.proofs.system_written.Goals as goal
 
-pub returns-in-Intctrl : goal.returns-in-Intctrl
+pub returns-in-Intctrl-clause-writes : goal.returns-in-Intctrl-clause-writes
 unfolding system_written
-returns-in-Intctrl c = λ m. simp (c.intctrl_written.ensures, c.in-Intctrl.is)
+returns-in-Intctrl-clause-writes c = simp (c.intctrl_written.ensures, c.in-Intctrl.is)
 
-pub returns-in-Apint : goal.returns-in-Apint
+pub returns-in-Apint-clause-writes : goal.returns-in-Apint-clause-writes
 unfolding system_written
-returns-in-Apint c = λ m. c.apint_written.ensures c.args.chip (with_enabled _ (with_pending _ m)) ∙ simp c.in-Apint.is
+returns-in-Apint-clause-writes c = simp (c.apint_written-state.ensures, c.in-Apint.is)
 
-pub returns-in-Syshndctrl : goal.returns-in-Syshndctrl
+pub returns-in-Syshndctrl-clause-writes : goal.returns-in-Syshndctrl-clause-writes
 unfolding system_written
-returns-in-Syshndctrl c = λ m. simp (c.syshndctrl_written.ensures, c.in-Syshndctrl.is)
+returns-in-Syshndctrl-clause-writes c = simp (c.syshndctrl_written.ensures, c.in-Syshndctrl.is)
 
-pub returns-in-Swtrig : goal.returns-in-Swtrig
+pub returns-in-Swtrig-clause-writes : goal.returns-in-Swtrig-clause-writes
 unfolding system_written
-returns-in-Swtrig c = λ m. simp (c.swtrig_written.ensures, c.in-Swtrig.is)
+returns-in-Swtrig-clause-writes c = simp (c.swtrig_written.ensures, c.in-Swtrig.is)
 
-pub returns-in-Vtable : goal.returns-in-Vtable
+pub returns-in-Vtable-clause-writes : goal.returns-in-Vtable-clause-writes
 unfolding system_written
-returns-in-Vtable c = λ m. c.stored_written.ensures (with_enabled _ (with_pending _ m)) ∙ simp c.in-Vtable.is
+returns-in-Vtable-clause-writes c = c.stored_written.ensures.writes ∙ simp c.in-Vtable.is
 
-pub returns-in-Sysctrl : goal.returns-in-Sysctrl
+pub returns-in-Sysctrl-clause-writes : goal.returns-in-Sysctrl-clause-writes
 unfolding system_written
-returns-in-Sysctrl c = λ m. c.stored_written-in-Sysctrl.ensures (with_enabled _ (with_pending _ m)) ∙ simp c.in-Sysctrl.is
+returns-in-Sysctrl-clause-writes c = c.stored_written-in-Sysctrl.ensures.writes ∙ simp c.in-Sysctrl.is
 
-pub returns-in-Cfgctrl : goal.returns-in-Cfgctrl
+pub returns-in-Cfgctrl-clause-writes : goal.returns-in-Cfgctrl-clause-writes
 unfolding system_written
-returns-in-Cfgctrl c = λ m. c.stored_written-in-Cfgctrl.ensures (with_enabled _ (with_pending _ m)) ∙ simp c.in-Cfgctrl.is
+returns-in-Cfgctrl-clause-writes c = c.stored_written-in-Cfgctrl.ensures.writes ∙ simp c.in-Cfgctrl.is
 
-pub returns-in-Faultstat : goal.returns-in-Faultstat
+pub returns-in-Faultstat-clause-writes : goal.returns-in-Faultstat-clause-writes
 unfolding system_written
-returns-in-Faultstat c = λ m. c.stored_written-in-Faultstat.ensures (with_enabled _ (with_pending _ m)) ∙ simp c.in-Faultstat.is
+returns-in-Faultstat-clause-writes c = c.stored_written-in-Faultstat.ensures.writes ∙ simp c.in-Faultstat.is
 
-pub returns-in-Hfaultstat : goal.returns-in-Hfaultstat
+pub returns-in-Hfaultstat-clause-writes : goal.returns-in-Hfaultstat-clause-writes
 unfolding system_written
-returns-in-Hfaultstat c = λ m. c.stored_written-in-Hfaultstat.ensures (with_enabled _ (with_pending _ m)) ∙ simp c.in-Hfaultstat.is
+returns-in-Hfaultstat-clause-writes c = c.stored_written-in-Hfaultstat.ensures.writes ∙ simp c.in-Hfaultstat.is
 
-pub returns-in-Ictype : goal.returns-in-Ictype
+pub returns-in-Ictype-clause-writes : goal.returns-in-Ictype-clause-writes
 unfolding system_written
-returns-in-Ictype c = λ m. simp c.in-Ictype.is
+returns-in-Ictype-clause-writes c = simp c.in-Ictype.is
 
-pub returns-in-Cpuid : goal.returns-in-Cpuid
+pub returns-in-Cpuid-clause-writes : goal.returns-in-Cpuid-clause-writes
 unfolding system_written
-returns-in-Cpuid c = λ m. simp c.in-Cpuid.is
+returns-in-Cpuid-clause-writes c = simp c.in-Cpuid.is
 
-pub returns-in-Mmaddr : goal.returns-in-Mmaddr
+pub returns-in-Mmaddr-clause-writes : goal.returns-in-Mmaddr-clause-writes
 unfolding system_written
-returns-in-Mmaddr c = λ m. simp c.in-Mmaddr.is
+returns-in-Mmaddr-clause-writes c = simp c.in-Mmaddr.is
 
-pub returns-in-Faultaddr : goal.returns-in-Faultaddr
+pub returns-in-Faultaddr-clause-writes : goal.returns-in-Faultaddr-clause-writes
 unfolding system_written
-returns-in-Faultaddr c = λ m. simp c.in-Faultaddr.is
+returns-in-Faultaddr-clause-writes c = simp c.in-Faultaddr.is

@@ -1,33 +1,32 @@
 -- One clause a kind of register.
 use mathlib.Core.Path.{◌∙◌}
 use Rattle.rules.specs.Writes.{word_written}
-use Rattle.rules.specs.Model.{with_active, with_core, with_enabled, with_level, with_pending, with_priority}
 use Rattle.writes.proofs.word_written.Goals as goal
 
-pub returns-in-Missing : goal.returns-in-Missing
+pub returns-in-Missing-clause-writes : goal.returns-in-Missing-clause-writes
 unfolding word_written
-returns-in-Missing c = λ m. simp c.in-Missing.is
+returns-in-Missing-clause-writes c = simp c.in-Missing.is
 
-pub returns-in-Timer : goal.returns-in-Timer
+pub returns-in-Timer-clause-writes : goal.returns-in-Timer-clause-writes
 unfolding word_written
-returns-in-Timer c = λ m. c.timer_written.ensures c.args.chip (with_priority _ (with_level _ (with_enabled _ (with_active _ (with_pending _ m))))) ∙ simp c.in-Timer.is
+returns-in-Timer-clause-writes c = simp (c.timer_written-state.ensures, c.in-Timer.is)
 
-pub returns-in-Flags : goal.returns-in-Flags
+pub returns-in-Flags-clause-writes : goal.returns-in-Flags-clause-writes
 unfolding word_written
-returns-in-Flags c = λ m. c.bank_written.ensures (with_core c.args.core (with_priority _ m)) ∙ simp c.in-Flags.is
+returns-in-Flags-clause-writes c = c.bank_written.ensures.writes ∙ simp c.in-Flags.is
 
-pub returns-in-Priority : goal.returns-in-Priority
+pub returns-in-Priority-clause-writes : goal.returns-in-Priority-clause-writes
 unfolding word_written
-returns-in-Priority c = λ m. simp (c.put_bytes.ensures, c.in-Priority.is)
+returns-in-Priority-clause-writes c = simp (c.put_bytes.ensures, c.in-Priority.is)
 
-pub returns-in-System : goal.returns-in-System
+pub returns-in-System-clause-writes : goal.returns-in-System-clause-writes
 unfolding word_written
-returns-in-System c = λ m. c.system_written.ensures (with_priority _ (with_level _ (with_active _ m))) ∙ simp c.in-System.is
+returns-in-System-clause-writes c = c.system_written.ensures.writes ∙ simp c.in-System.is
 
-pub returns-in-Guard : goal.returns-in-Guard
+pub returns-in-Guard-clause-writes : goal.returns-in-Guard-clause-writes
 unfolding word_written
-returns-in-Guard c = λ m. c.guard_written.ensures c.args.chip (with_priority _ (with_level _ (with_enabled _ (with_active _ (with_pending _ m))))) ∙ simp c.in-Guard.is
+returns-in-Guard-clause-writes c = simp (c.write-state.ensures, c.in-Guard.is)
 
-pub returns-in-Constant : goal.returns-in-Constant
+pub returns-in-Constant-clause-writes : goal.returns-in-Constant-clause-writes
 unfolding word_written
-returns-in-Constant c = λ m. simp c.in-Constant.is
+returns-in-Constant-clause-writes c = simp c.in-Constant.is

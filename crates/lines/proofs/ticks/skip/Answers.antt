@@ -3,5 +3,5 @@ use mathlib.Core.Path.{◌∙◌}
 use Rattle.rules.specs.SkipLaws.{skip_timer}
 use Rattle.lines.proofs.ticks.skip.Goals as goal
 
-pub returns : goal.returns
-returns c = λ m. c.ticked.ensures m ∙ simp (c.skip.ensures, skip_timer)
+pub returns-clause-answer : goal.returns-clause-answer
+returns-clause-answer c = c.ticked.ensures.answer ∙ simp (c.skip.ensures, skip_timer)

@@ -3,6 +3,6 @@ use mathlib.Core.Path.{◌∙◌}
 use Rattle.rules.specs.Events.{tick_call}
 use Rattle.lines.proofs.ticks.tick.Goals as goal
 
-pub returns : goal.returns
+pub returns-clause-answer : goal.returns-clause-answer
 unfolding tick_call
-returns c = λ m. c.ticked.ensures m ∙ simp c.tick.ensures
+returns-clause-answer c = c.ticked.ensures.answer ∙ simp c.tick.ensures

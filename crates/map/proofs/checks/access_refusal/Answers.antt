@@ -3,21 +3,21 @@ use mathlib.Core.Path.{◌∙◌, sym}
 use Rattle.rules.specs.Registers.{access_refusal}
 use Rattle.map.proofs.checks.access_refusal.Goals as goal
 
-pub returns-then-allowed : goal.returns-then-allowed
+pub returns-then-not-is_width : goal.returns-then-not-is_width
 unfolding access_refusal
-returns-then-allowed c =
-    c.width_refusal.ensures
-    ∙ simp (sym c.is_width.ensures ∙ c.if-is_width.true, sym c.is_aligned.ensures ∙ c.if-is_aligned.true, c.if-allowed.true)
+returns-then-not-is_width c = simp (sym c.is_width.ensures ∙ c.if-not-is_width.true)
 
-pub returns-then-is_aligned : goal.returns-then-is_aligned
+pub returns-then-not-is_aligned : goal.returns-then-not-is_aligned
 unfolding access_refusal
-returns-then-is_aligned c =
-    simp (sym c.is_width.ensures ∙ c.if-is_width.true, sym c.is_aligned.ensures ∙ c.if-is_aligned.true, c.if-allowed.false)
+returns-then-not-is_aligned c = simp (sym c.is_width.ensures ∙ c.if-not-is_width.false, sym c.is_aligned.ensures ∙ c.if-not-is_aligned.true)
 
-pub returns-then-is_width : goal.returns-then-is_width
+pub returns-then-not-allowed : goal.returns-then-not-allowed
 unfolding access_refusal
-returns-then-is_width c = simp (sym c.is_width.ensures ∙ c.if-is_width.true, sym c.is_aligned.ensures ∙ c.if-is_aligned.false)
+returns-then-not-allowed c =
+    simp (sym c.is_width.ensures ∙ c.if-not-is_width.false, sym c.is_aligned.ensures ∙ c.if-not-is_aligned.false, c.if-not-allowed.true)
 
 pub returns : goal.returns
 unfolding access_refusal
-returns c = simp (sym c.is_width.ensures ∙ c.if-is_width.false)
+returns c =
+    c.width_refusal.ensures
+    ∙ simp (sym c.is_width.ensures ∙ c.if-not-is_width.false, sym c.is_aligned.ensures ∙ c.if-not-is_aligned.false, c.if-not-allowed.false)

@@ -7,4 +7,4 @@ use Rattle.mpu.proofs.Mpu.with_rbar.Goals as goal
 
 pub returns : goal.returns
 unfolding with_rbar
-returns c = simp (c.with_word-bases.ensures, c.region_of.ensures, sym (word_kept c.args.x (search rules)))
+returns c = simp (c.with_word-self.ensures, c.region_of.ensures, sym (word_kept c.args.x (search rules)))

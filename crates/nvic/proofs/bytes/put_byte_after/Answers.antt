@@ -1,11 +1,10 @@
--- Past the end nothing is written, whoever has a byte there.
+-- Past the end nothing is written, whoever has a byte there; no list is as long as a sum that passes a word.
 use mathlib.Core.Path.{sym}
-use native.Mathlib.Omega.{arith}
+use Rattle.std.proofs.Common.{rules, ◌+◌, ◌≤◌, length}
 use Rattle.nvic.proofs.Laws.{with_byte_past}
 use Rattle.nvic.proofs.bytes.put_byte_after.Goals as goal
 
-pub returns-else-k-priority : goal.returns-else-k-priority
-returns-else-k-priority c = sym (with_byte_past _ _ _ _ (omega arith))
-
-pub returns-else-n-priority : goal.returns-else-n-priority
-returns-else-n-priority c = sym (with_byte_past _ _ _ _ (omega arith))
+pub returns-in_default : goal.returns-in_default
+returns-in_default c =
+    let h : length c.args.priority.now ≤ c.args.n + c.args.lane = search rules in
+    sym (with_byte_past _ _ _ _ h)

@@ -1,8 +1,5 @@
--- The word to clear, call by call.
-use mathlib.Core.Path.{◌∙◌}
-use Rattle.rules.specs.Writes.{clearable}
+-- The pending flags alone change.
 use Rattle.nvic.proofs.flags.clear_pending.Goals as goal
 
-pub returns : goal.returns
-unfolding clearable
-returns c = c.clear_flags.ensures ∙ simp (c.clear_ones.ensures, c.clear_ones-held.ensures, c.flags_word-2.ensures, c.flags_word.ensures)
+pub returns-clause-clears : goal.returns-clause-clears
+returns-clause-clears c = simp (c.clear_flags.ensures, c.clearable-cleared.ensures)

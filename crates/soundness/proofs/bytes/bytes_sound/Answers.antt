@@ -29,4 +29,4 @@ line-byte c bytes n low high =
 pub loop-n-preserved : goal.loop-n-preserved
 unfolding every
 loop-n-preserved c =
-    (omega arith, omega arith, c.both-ok.ensures ∙ (λ i. (c.is_kept.ensures ∙ sym (line-byte c.args.chip c.args.priority.now c.loop-n.n c.loop-n.invariant.0 (rw (sym c.requires) c.loop-n-test.true))) i && c.loop-n.invariant.2 i) ∙ ap (every (byte_sound c.args.chip c.args.priority.now)) (sym (add-one c.loop-n.n)))
+    c.both-ok.ensures ∙ (λ i. (c.is_kept.ensures ∙ sym (line-byte c.args.chip c.args.priority.now c.loop-n.n (omega arith) (omega arith))) i && c.loop-n.invariant i) ∙ ap (every (byte_sound c.args.chip c.args.priority.now)) (sym (add-one c.loop-n.n))

@@ -1,5 +1,4 @@
 -- One byte that fails decides; else all are tried.
-use Prim.Native.Nat.{◌≤◌, ◌-◌}
 use mathlib.Core.Path.{◌≡◌}
 use mathlib.Core.Bool.{true}
 use Rattle.bools.specs.Every.{every}
@@ -7,7 +6,4 @@ use Rattle.rules.specs.Sound.{byte_sound}
 use Rattle.soundness.proofs.bytes.low_bytes_sound.Given as goal
 
 abbrev pub invariant-loop-n : goal.invariant-loop-n
-invariant-loop-n l = (l.n ≤ 16) × (every (byte_sound l.chip l.priority) l.n ≡ true)
-
-abbrev pub decreases-loop-n : goal.decreases-loop-n
-decreases-loop-n l = 16 - l.n
+invariant-loop-n l = every (byte_sound l.chip l.priority) l.n ≡ true

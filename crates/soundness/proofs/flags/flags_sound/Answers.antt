@@ -3,7 +3,6 @@ use Prim.Native.Nat.{ℕ, ◌<◌}
 use mathlib.Core.Path.{◌≡◌, refl, sym, ap, ◌∙◌}
 use mathlib.Core.List.{List}
 use mathlib.Core.Bool.{Bool, true, false, not}
-use native.Mathlib.Nat.{le_antisymm}
 use native.Mathlib.Numerals.{add-one}
 use native.Mathlib.Omega.{arith}
 use lib.Dec.{T, ltb, ltb→lt, nltb→le}
@@ -27,7 +26,7 @@ all-stand c place l e = true_is _ (every_of _ (flag_count c) (λ n h. go n h (lt
 
 pub loop-n-init : goal.loop-n-init
 unfolding every
-loop-n-init c = (omega arith, refl)
+loop-n-init c = refl
 
 pub returns-then-not-flag_fits : goal.returns-then-not-flag_fits
 unfolding flag_sound
@@ -35,7 +34,7 @@ returns-then-not-flag_fits c = sym (every_false _ c.loop-n.n _ (omega arith) (sy
 
 pub loop-n-preserved : goal.loop-n-preserved
 unfolding every flag_sound
-loop-n-preserved c = (omega arith, simp (add-one, sym c.flag_fits.ensures ∙ c.if-not-flag_fits.false, c.loop-n.invariant.1))
+loop-n-preserved c = simp (add-one, sym c.flag_fits.ensures ∙ c.if-not-flag_fits.false, c.loop-n.invariant)
 
 pub returns : goal.returns
-returns c = sym (all-stand _ _ _ (ap (every _) (sym (le_antisymm c.loop-n.invariant.0 c.loop-n-test.false)) ∙ c.loop-n.invariant.1))
+returns c = sym (all-stand _ _ _ (ap (every _) (omega arith) ∙ c.loop-n.invariant))

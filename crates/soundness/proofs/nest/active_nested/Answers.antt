@@ -8,12 +8,12 @@ use Rattle.soundness.proofs.nest.active_nested.Goals as goal
 
 pub loop-n-init : goal.loop-n-init
 unfolding every
-loop-n-init c = (omega arith, refl)
+loop-n-init c = refl
 
 pub returns-then-not-active_fits : goal.returns-then-not-active_fits
 unfolding nested_sound
-returns-then-not-active_fits c = sym (every_false _ c.loop-n.n _ c.loop-n-test.true (sym c.active_fits.ensures ∙ c.if-not-active_fits.true))
+returns-then-not-active_fits c = sym (every_false _ c.loop-n.n _ (omega arith) (sym c.active_fits.ensures ∙ c.if-not-active_fits.true))
 
 pub loop-n-preserved : goal.loop-n-preserved
 unfolding every nested_sound
-loop-n-preserved c = (omega arith, simp (add-one, sym c.active_fits.ensures ∙ c.if-not-active_fits.false, c.loop-n.invariant.1))
+loop-n-preserved c = simp (add-one, sym c.active_fits.ensures ∙ c.if-not-active_fits.false, c.loop-n.invariant)

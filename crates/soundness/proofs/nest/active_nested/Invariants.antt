@@ -1,15 +1,10 @@
 -- One active exception that is not nested decides; else all are tried.
-use Prim.Native.Nat.{◌≤◌, ◌-◌}
 use mathlib.Core.Path.{◌≡◌}
 use mathlib.Core.Bool.{true}
-use lib.ListN.{length}
 use Rattle.rules.specs.Model.{down}
 use Rattle.bools.specs.Every.{every}
 use Rattle.rules.specs.Sound.{nested_sound}
 use Rattle.soundness.proofs.nest.active_nested.Given as goal
 
 abbrev pub invariant-loop-n : goal.invariant-loop-n
-invariant-loop-n l = (l.n ≤ length l.active) × (every (nested_sound l.active (down l.nest l.depth)) l.n ≡ true)
-
-abbrev pub decreases-loop-n : goal.decreases-loop-n
-decreases-loop-n l = length l.active - l.n
+invariant-loop-n l = every (nested_sound l.active (down l.nest l.depth)) l.n ≡ true

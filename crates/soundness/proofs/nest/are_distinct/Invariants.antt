@@ -1,12 +1,8 @@
 -- After i of the oldest the answer is that of these i.
-use Prim.Native.Nat.{◌≤◌, ◌-◌}
 use mathlib.Core.Path.{◌≡◌}
 use Rattle.rules.specs.Sound.{all_distinct}
 use Rattle.rules.specs.Model.{down}
 use Rattle.soundness.proofs.nest.are_distinct.Given as goal
 
 abbrev pub invariant-loop-i : goal.invariant-loop-i
-invariant-loop-i l = (l.i ≤ l.depth) × (l.ok ≡ all_distinct (down l.nest l.i))
-
-abbrev pub decreases-loop-i : goal.decreases-loop-i
-decreases-loop-i l = l.depth - l.i
+invariant-loop-i l = l.ok ≡ all_distinct (down l.nest l.i)

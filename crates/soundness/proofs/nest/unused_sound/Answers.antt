@@ -29,13 +29,13 @@ module _ (nest : List ℕ) (depth : ℕ) where
       go (inr l) = ap (every _) (le_antisymm (omega arith) past)
 
 pub loop-i-init : goal.loop-i-init
-loop-i-init c = (omega arith, omega arith, sym (in_use _ _ _ (omega arith)))
+loop-i-init c = (omega arith, sym (in_use _ _ _ (omega arith)))
 
 pub loop-i-preserved : goal.loop-i-preserved
 unfolding every unused_sound
 loop-i-preserved c =
-    (omega arith, omega arith, c.both-ok.ensures ∙ simp (add-one, le-ltb _ _ c.loop-i.invariant.0, c.loop-i.invariant.2))
+    (omega arith, c.both-ok.ensures ∙ simp (add-one, le-ltb _ _ c.loop-i.auto.i, c.loop-i.invariant.1))
 
 pub returns : goal.returns
 returns c =
-    c.loop-i.invariant.2 ∙ to_the_end _ _ _ c.loop-i.invariant.0 c.loop-i.invariant.1 c.loop-i-test.false
+    c.loop-i.invariant.1 ∙ to_the_end _ _ _ c.loop-i.auto.i c.loop-i.invariant.0 c.loop-i-test.false

@@ -8,7 +8,4 @@ use Rattle.rules.specs.Sound.{unused_sound}
 use Rattle.soundness.proofs.nest.unused_sound.Given as goal
 
 abbrev pub invariant-loop-i : goal.invariant-loop-i
-invariant-loop-i l = (l.depth ≤ l.i) × (l.i ≤ l.depth + (length l.nest - l.depth)) × (l.ok ≡ every (unused_sound l.nest l.depth) l.i)
-
-abbrev pub decreases-loop-i : goal.decreases-loop-i
-decreases-loop-i l = length l.nest - l.i
+invariant-loop-i l = (l.i ≤ l.depth + (length l.nest - l.depth)) × (l.ok ≡ every (unused_sound l.nest l.depth) l.i)

@@ -1,9 +1,0 @@
--- Eight words, whose addresses are far below 2^32.
-use Prim.Native.Nat.{◌≤◌, ◌-◌}
-use Rattle.any_chip_cases.proofs.nesting.all_enabled.Given as goal
-
-abbrev pub invariant-loop-k : goal.invariant-loop-k
-invariant-loop-k l = l.k ≤ 8
-
-abbrev pub decreases-loop-k : goal.decreases-loop-k
-decreases-loop-k l = 8 - l.k

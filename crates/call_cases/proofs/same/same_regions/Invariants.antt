@@ -1,9 +1,0 @@
--- Every turn is one of the eight regions.
-use Prim.Native.Nat.{◌≤◌, ◌-◌}
-use Rattle.call_cases.proofs.same.same_regions.Given as goal
-
-abbrev pub invariant-loop-i : goal.invariant-loop-i
-invariant-loop-i l = l.i ≤ 8
-
-abbrev pub decreases-loop-i : goal.decreases-loop-i
-decreases-loop-i l = 8 - l.i

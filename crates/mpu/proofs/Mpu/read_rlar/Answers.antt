@@ -1,7 +1,0 @@
--- The word of the region that the pair names.
-use Rattle.mpu.specs.Pmsav8.{read_rlar}
-use Rattle.mpu.proofs.Mpu.read_rlar.Goals as goal
-
-pub returns : goal.returns
-unfolding read_rlar
-returns c = simp (c.word_at.ensures, c.region_of.ensures)
