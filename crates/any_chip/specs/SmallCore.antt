@@ -31,7 +31,7 @@ pub record CodeSmallCore : Type 0 where
       → r ≡ record { refusal = 10; value = 0; vector = 0; link = 0; state = s }
   -- "vectors start at 0"
   pub vectors : (s : State) (r : Reply) → Called s event.Entry r → r.refusal ≡ 0 → r.vector ≡ 4 * r.value
-  -- what ED04 reads: "top of nest in 5:0, bit 11 is 0" (`topmost` and `bit-11` of `cortex_m0`)
+  -- what ED04 reads: "top of nest in 5:0, bit 11 is 0" (`topmost` and `bit_11` of `cortex_m0`)
   pub read_ed04 : (s : State) (r : Reply) → Called s (event.Read 4 0xE000ED04) r → r ≡ record { refusal = 0; value = ed04 (model s); vector = 0; link = 0; state = s }
   -- "access events are refused by 19", and the state stays
   pub access : (s : State) (kind : AccessKind) (w a : ℕ) (r : Reply) → Called s (event.Access kind w a) r → r ≡ record { refusal = 19; value = 0; vector = 0; link = 0; state = s }

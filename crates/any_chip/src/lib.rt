@@ -6,6 +6,7 @@ ghost use Rattle.rules.specs.Chip.{chip_of, fits};
 ghost use Rattle.rules.specs.Model.{fresh, stack, depth_of, top};
 ghost use Rattle.rules.specs.Priorities.{execution};
 ghost use Rattle.rules.specs.Sound.{is_sound};
+ghost use Rattle.places.specs.Places.{reach_of};
 ghost use Rattle.any_chip.specs.View.{reach_in, model, state};
 
 use places::{Arrays, Reach};
@@ -13,7 +14,7 @@ use rules::{Core, Lent, Setup};
 
 mod stepped;
 
-// Flags and priority bytes stand at exception numbers; the nest holds the active exceptions, the newest last; `lost` counts the rises
+// Beside the `State` of `model`, which has neither setup nor reach and is compiled for its lengths. Flags and priority bytes stand at exception numbers; the nest holds the active exceptions, the newest last; `lost` counts the rises
 // that each line lost. A chip has the first places of each array, and the others are clear. `core` has the nest's depth and every part that holds no array of the chip's size.
 #[derive(Clone, Copy, PartialEq, Eq, Debug)]
 pub struct State {
@@ -30,6 +31,14 @@ pub struct State {
 
 // What a call answers: its answer, and the next state.
 pub type Reply = calls::Reply<State>;
+
+// A setup's chip has no more places than the arrays.
+fn reach_on(setup: Setup, arrays: Arrays<'_>) -> Reach
+    ensures value { result ≡ reach_of (chip_of setup) arrays.entry.pending.now arrays.entry.active.now arrays.entry.enabled.now arrays.entry.level.now arrays.entry.priority.now arrays.entry.nest.now arrays.entry.lost.now }
+    ensures within { (result.places ≤ 256) × (result.nest ≤ 248) × (result.lost ≤ 240) }
+{
+    places::reach_of(setup.chip(), arrays)
+}
 
 impl State {
     pub fn fresh(setup: Setup) -> Self
@@ -71,7 +80,7 @@ impl State {
             nest: &self.nest,
             lost: &self.lost,
         };
-        places::reach_of(self.setup.chip(), arrays)
+        reach_on(self.setup, arrays)
     }
 
     // The newest of the nest, 0 in thread mode.

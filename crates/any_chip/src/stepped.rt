@@ -8,6 +8,7 @@ ghost use Rattle.any_chip.specs.View.{model, reply};
 
 use super::{Reply, State};
 use calls::Calls;
+use places::Arrays;
 use rules::{Chip, Core, Lent, Outcome};
 use script::Event;
 
@@ -22,11 +23,11 @@ fn step_on(
     priority: &mut [u8],
     nest: &mut [u8],
     lost: &mut [u16],
-    core: Core,
+    core: &mut Core,
     event: Event,
-) -> (Outcome, Core)
+) -> Outcome
     requires { FewLines chip }
-    ensures { answer result.0 (model_of pending.new active.new enabled.new level.new priority.new nest.new lost.new result.1) ≡ step_of chip (model_of pending.old active.old enabled.old level.old priority.old nest.old lost.old core) event }
+    ensures { answer result (model_of pending.new active.new enabled.new level.new priority.new nest.new lost.new core.new) ≡ step_of chip (model_of pending.old active.old enabled.old level.old priority.old nest.old lost.old core.old) event }
 {
     let mut lent = Lent {
         pending,
@@ -36,10 +37,11 @@ fn step_on(
         priority,
         nest,
         lost,
-        core,
+        core: *core,
     };
     let outcome = guarded::step(chip, &mut lent, event);
-    (outcome, lent.core)
+    *core = lent.core;
+    outcome
 }
 
 impl Calls for State {
@@ -47,7 +49,6 @@ impl Calls for State {
 
     // The work is done on the chip's places of the arrays, lent to the code that every chip shares.
     fn step(self, event: Event) -> Reply {
-        let reach = self.reached();
         let State {
             setup,
             mut pending,
@@ -57,9 +58,19 @@ impl Calls for State {
             mut priority,
             mut nest,
             mut lost,
-            core,
+            mut core,
         } = self;
-        let (outcome, core) = step_on(
+        let arrays = Arrays {
+            pending: &pending,
+            active: &active,
+            enabled: &enabled,
+            level: &level,
+            priority: &priority,
+            nest: &nest,
+            lost: &lost,
+        };
+        let reach = super::reach_on(setup, arrays);
+        let outcome = step_on(
             setup.chip(),
             &mut pending[..reach.places],
             &mut active[..reach.places],
@@ -68,7 +79,7 @@ impl Calls for State {
             &mut priority[..reach.places],
             &mut nest[..reach.nest],
             &mut lost[..reach.lost],
-            core,
+            &mut core,
             event,
         );
         let state = State {

@@ -27,6 +27,7 @@ pub fn test_bit(x: u32, k: u32) -> bool
     (x >> k) % 2 == 1
 }
 
+// Set and clear by name: one function over a flag would have a literal at each call.
 pub fn set_bit(x: u32, k: u32) -> u32
     requires { k < 32 }
     ensures { result ≡ with_bit k true x }
@@ -62,6 +63,7 @@ pub fn byte_of(x: u32, i: u32) -> u8
     ((x >> (8 * i)) % 256) as u8
 }
 
+// The library's conversion by name: callers' proofs cite the bound.
 pub fn wide(x: u8) -> u32
     ensures { (result ≡ x) × (result < 256) }
 {

@@ -3,6 +3,7 @@
 
 ghost use Rattle.std.specs.Prelude.{◌≡◌, ◌&&◌};
 
+// The operator by name, for callers whose proofs cite its clause.
 pub fn both(a: bool, b: bool) -> bool
     ensures { result ≡ a && b }
 {

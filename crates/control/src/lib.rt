@@ -90,6 +90,7 @@ fn actives_shown(active: &[bool]) -> u32
         + shown(active, 4, 1)
 }
 
+// Three lists and nothing else of a state, as the definition.
 pub fn syshndctrl_value(pending: &[bool], active: &[bool], enabled: &[bool]) -> u32
     ensures { result ≡ syshndctrl_value pending.now active.now enabled.now }
 {

@@ -54,6 +54,7 @@ fn put_flags(flags: &mut [bool], at: usize, word: u32, value: bool)
     }
 }
 
+// Set and clear by name: `put_flags` would have a literal at each call.
 pub fn set_flags(flags: &mut [bool], at: usize, word: u32)
     ensures { flags.new ≡ set_flags flags.old at word }
 {

@@ -37,6 +37,7 @@ pub fn grouped(z: i32, p: u32) -> i32
     group_of(z as u32, p) as i32
 }
 
+// The library's conversion by name: clauses speak of `pos`.
 pub fn signed(b: u8) -> i32
     ensures { result ≡ pos b }
 {

@@ -9,10 +9,11 @@ mod skips;
 mod ticks;
 mod words;
 
-fn main() {
-    words::run();
-    order::run();
-    ticks::run();
-    skips::run();
-    guard::run();
+fn main(rt: HostRuntime) -> std::io::Result<()> {
+    words::run(&rt)?;
+    order::run(&rt)?;
+    ticks::run(&rt)?;
+    skips::run(&rt)?;
+    guard::run(&rt)?;
+    Ok(())
 }

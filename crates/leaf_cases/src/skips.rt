@@ -1,20 +1,11 @@
 // Crate systick: many ticks at once, by worked counts, and beside as many single ticks.
-use super::show::{four, two};
-use bits::bit_of;
+use super::show::{ticked, told};
+use std::io::Result;
 use systick::{Ticked, Timer};
 
-// So many ticks: the current value after them, whether one fell to 0, whether SysTick becomes pending; COUNT and control.
-fn skipped(label: &[u8], t: Timer, count: u32) {
-    let r = t.skip(count);
-    let next = r.timer;
-    let control = next.read_control();
-    four(
-        label,
-        next.read_current(),
-        bit_of(r.fell),
-        bit_of(r.pends),
-        control.value,
-    );
+fn skipped(rt: &impl Print, label: &str, t: Timer, count: u32) -> Result<()> {
+    ticked(rt, label, t.skip(count))?;
+    Ok(())
 }
 
 // Counting, with TICKINT or without.
@@ -27,41 +18,55 @@ fn timer(control: u32, reload: u32, current: u32) -> Timer {
     }
 }
 
-fn worked() {
+fn worked(rt: &impl Print) -> Result<()> {
     let t = timer(3, 5, 0);
     skipped(
-        b"0 ticks from 0, reload 5: current, fell, pends, STCTRL",
+        rt,
+        "0 ticks from 0, reload 5: current, fell, pends, STCTRL",
         t,
         0,
-    );
-    skipped(b"1", t, 1);
-    skipped(b"5, the reload value", t, 5);
-    skipped(b"6, one more", t, 6);
-    skipped(b"7", t, 7);
-    skipped(b"4294967295, 3 over", t, 4294967295);
-    skipped(b"6 without TICKINT", timer(1, 5, 0), 6);
-    skipped(b"6 with the timer off", timer(6, 5, 0), 6);
-    skipped(b"99 from 100, reload 5", timer(3, 5, 100), 99);
-    skipped(b"100 from 100, reload 5", timer(3, 5, 100), 100);
-    skipped(b"101 from 100, reload 5", timer(3, 5, 100), 101);
-    skipped(b"4294967295 from 5, reload 0", timer(3, 0, 5), 4294967295);
-    skipped(b"4294967295 from 0, reload 0", timer(3, 0, 0), 4294967295);
+    )?;
+    skipped(rt, "1", t, 1)?;
+    skipped(rt, "5, the reload value", t, 5)?;
+    skipped(rt, "6, one more", t, 6)?;
+    skipped(rt, "7", t, 7)?;
+    skipped(rt, "4294967295, 3 over", t, 4294967295)?;
+    skipped(rt, "6 without TICKINT", timer(1, 5, 0), 6)?;
+    skipped(rt, "6 with the timer off", timer(6, 5, 0), 6)?;
+    skipped(rt, "99 from 100, reload 5", timer(3, 5, 100), 99)?;
+    skipped(rt, "100 from 100, reload 5", timer(3, 5, 100), 100)?;
+    skipped(rt, "101 from 100, reload 5", timer(3, 5, 100), 101)?;
+    skipped(
+        rt,
+        "4294967295 from 5, reload 0",
+        timer(3, 0, 5),
+        4294967295,
+    )?;
+    skipped(
+        rt,
+        "4294967295 from 0, reload 0",
+        timer(3, 0, 0),
+        4294967295,
+    )?;
+    Ok(())
 }
 
 // The largest values that are kept, and the largest that the fields hold.
-fn large() {
+fn large(rt: &impl Print) -> Result<()> {
     let t = timer(3, 0xffffff, 0);
-    skipped(b"16777215 from 0, reload 0xFFFFFF", t, 0xffffff);
-    skipped(b"16777216", t, 0x1000000);
-    skipped(b"4294967295", t, 0xffffffff);
+    skipped(rt, "16777215 from 0, reload 0xFFFFFF", t, 0xffffff)?;
+    skipped(rt, "16777216", t, 0x1000000)?;
+    skipped(rt, "4294967295", t, 0xffffffff)?;
     let wide = timer(3, 0xffffffff, 0);
-    skipped(b"4294967295 from 0, reload 0xFFFFFFFF", wide, 0xffffffff);
+    skipped(rt, "4294967295 from 0, reload 0xFFFFFFFF", wide, 0xffffffff)?;
     skipped(
-        b"4294967295 from 4294967295",
+        rt,
+        "4294967295 from 4294967295",
         timer(3, 0xffffffff, 0xffffffff),
         0xffffffff,
-    );
-    skipped(b"4294967295 from 1", timer(3, 0xffffffff, 1), 0xffffffff);
+    )?;
+    skipped(rt, "4294967295 from 1", timer(3, 0xffffffff, 1), 0xffffffff)?;
+    Ok(())
 }
 
 // Some ticks and one more.
@@ -77,17 +82,17 @@ fn one_more(some: Ticked) -> Ticked {
 
 // Of the counts 0 to 39, how many leave what so many single ticks leave, and fell or pended as one of them did.
 fn alike(t: Timer) -> u32 {
-    let mut ticked = Ticked {
+    let mut singly = Ticked {
         timer: t,
         fell: false,
         pends: false,
     };
     let mut sum: u32 = 0;
     for count in 0..40 {
-        if t.skip(count) == ticked {
+        if t.skip(count) == singly {
             sum = sum.wrapping_add(1);
         }
-        ticked = one_more(ticked);
+        singly = one_more(singly);
     }
     sum
 }
@@ -104,19 +109,16 @@ fn numbered(i: u32) -> Timer {
 
 // The sum over all 1,344 timers.
 fn all_alike() -> u32 {
-    let mut sum: u32 = 0;
-    for i in 0..1344 {
-        sum = sum.wrapping_add(alike(numbered(i)));
-    }
-    sum
+    (0..1344).fold(0, |sum: u32, i| sum.wrapping_add(alike(numbered(i))))
 }
 
-pub fn run() {
-    worked();
-    large();
-    two(
-        b"counts on small timers, and those that leave what so many single ticks leave",
-        1344 * 40,
-        all_alike(),
-    );
+pub fn run(rt: &impl Print) -> Result<()> {
+    worked(rt)?;
+    large(rt)?;
+    told(
+        rt,
+        "counts on small timers, and those that leave what so many single ticks leave",
+        &[1344 * 40, all_alike()],
+    )?;
+    Ok(())
 }

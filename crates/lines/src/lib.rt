@@ -1,4 +1,4 @@
-// Lines, NMI and SysTick on lent lists, for every chip.
+// Lines, NMI and SysTick on a lent state, for every chip.
 #![tactic(auto)]
 
 ghost use Rattle.std.specs.Prelude.{◌≡◌, not, ◌&&◌};

@@ -1,4 +1,4 @@
--- An entry looks at the masks only to choose, and at a lower execution priority the choice is the same or nothing (`lower-limit`, by `first-decides`).
+-- An entry looks at the masks only to choose, and at a lower execution priority the choice is the same or nothing (`lower_limit`, by `first_decides`).
 use Prim.Native.Nat.{ℕ, ◌≤◌}
 use mathlib.Core.Path.{◌≡◌, refl, sym, subst}
 use mathlib.Core.Logic.{◌≢◌, ◌⊎◌, inl, inr}

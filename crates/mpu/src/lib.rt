@@ -299,6 +299,7 @@ impl Mpu {
         self
     }
 
+    // A function for each register, as in the definitions: a field is no parameter.
     fn with_mair0(mut self, x: u32) -> Mpu
         ensures { result ≡ with_mair0 x self }
     {

@@ -1,4 +1,4 @@
--- What a call does from an event on is that event's line and what a call does from the next: the definitions of `specs/Running.antt` step by step.
+-- What a call does from an event on is that event's line and what a call does from the next: the definitions of `specs/Pieces.antt` step by step.
 use Prim.Native.Nat.{ℕ, suc, ◌-◌, ◌≤◌, ◌<◌}
 use mathlib.Core.Path.{◌≡◌, refl, subst}
 use mathlib.Core.List.{List, [], ◌∷◌, ◌++◌, append_assoc}

@@ -2,6 +2,7 @@
 #![tactic(auto)]
 
 ghost use Rattle.std.specs.Prelude.{◌≡◌, List, ℕ, ◌≤◌, ◌+◌, length};
+ghost use Rattle.refusals.specs.Refusals.{number_of};
 ghost use Rattle.decimal.specs.Decimal.{line_room};
 ghost use Rattle.rules.specs.declared.Chip.{Chip};
 ghost use Rattle.rules.specs.Lent.{view};
@@ -15,7 +16,7 @@ use refusals::Refusal;
 use rules::{Chip, Core, Lent, Outcome};
 
 // How far a script has run, beside the lists of the state: its other parts after `events` events, the offset of the next, whether the
-// script has ended, how many bytes of the buffer the last call wrote, and 17 or 16 where it was refused.
+// script has ended, how many bytes of the buffer the last call wrote, and 17 or 16 where it was refused: numbers, since `Ran` speaks of them.
 #[derive(Clone, Copy)]
 pub struct Course {
     pub core: Core,
@@ -79,7 +80,7 @@ pub fn refused(mut p: Course) -> Course
 {
     p.wrote = 0;
     p.ended = true;
-    p.refusal = 16;
+    p.refusal = u32::from(Refusal::Unsound);
     p
 }
 
@@ -138,22 +139,22 @@ pub fn put_answer(
 }
 
 // No event runs: the line `script R at B` is written and ends the script, where it has room.
-fn unrun(p: Course, number: u32, offset: u32, out: &mut [u8]) -> Course
-    ensures { Unrun p 0 number offset out.old result out.new }
+fn unrun(p: Course, refusal: Refusal, offset: u32, out: &mut [u8]) -> Course
+    ensures { Unrun p 0 (number_of refusal) offset out.old result out.new }
 {
     if out.len() < LINE_ROOM {
         let core = p.core;
         return going(core, p.at, p.events, 0);
     }
-    finished(p, decimal::put_broken(out, 0, number, offset))
+    finished(p, decimal::put_broken(out, 0, u32::from(refusal), offset))
 }
 
 // The chip does not fit.
 pub fn unadmitted(p: Course, out: &mut [u8]) -> Course
     ensures { Unrun p 17 17 0 out.old result out.new }
 {
-    let mut r = unrun(p, 17, 0, out);
-    r.refusal = 17;
+    let mut r = unrun(p, Refusal::Setup, 0, out);
+    r.refusal = u32::from(Refusal::Setup);
     r
 }
 
@@ -161,5 +162,5 @@ pub fn unadmitted(p: Course, out: &mut [u8]) -> Course
 pub fn run_long(p: Course, out: &mut [u8]) -> Course
     ensures { Unrun p 0 15 65536 out.old result out.new }
 {
-    unrun(p, 15, 65536, out)
+    unrun(p, Refusal::Length, 65536, out)
 }

@@ -1,3 +1,4 @@
+// Execution priority and the best pending exception, over slices of any length: a state, which has them together, is `rules`' and above this crate.
 #![tactic(auto)]
 
 ghost use Rattle.std.specs.Prelude.{◌≡◌, true, ◌&&◌, ◌≤◌, length};
@@ -65,7 +66,7 @@ fn least_nested(nest: &[u8], depth: usize, priority: &[u8], p: u32) -> i32
     least
 }
 
-// The same from the nest, in as many steps as it has entries. A sound state's nest has room for its depth.
+// The same from the nest, in as many steps as it has entries; both end in `masked`. A sound state's nest has room for its depth.
 #[tactic(auto, unfolding(crate::specs::Priority::execution_nested))]
 pub fn execution_nested(
     nest: &[u8],

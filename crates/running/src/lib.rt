@@ -18,7 +18,7 @@ fn is_usable(chip: Chip, state: &Lent<'_>, p: Course) -> bool
     sound_state::is_sound(chip, state) && p.events as usize <= p.at
 }
 
-// The state is not tested at each event: a sound state is sound after any event (`act-sound` of `demand3`).
+// The state is not tested at each event: a sound state is sound after any event (`act_sound` of `demand3`).
 fn run_events(
     chip: Chip,
     script: &[u8],

@@ -1,4 +1,4 @@
-// A whole state on lent lists, for every chip: the test of refusal 16, and the execution priority of a state that passes it.
+// A lent state whole, for every chip: the test of refusal 16, and the execution priority of a state that passes it.
 #![tactic(auto)]
 
 ghost use Rattle.std.specs.Prelude.{◌≡◌, ◌&&◌, ◌≤◌, length, ltb, eqb};
@@ -62,7 +62,7 @@ pub fn is_sound(chip: Chip, state: &Lent<'_>) -> bool
         && bare::fits_profile(chip, state.core)
 }
 
-// The execution priority of a sound state: its nest holds exactly the active exceptions (`execution-nest` of `demand3`) and is short,
+// The execution priority of a sound state: its nest holds exactly the active exceptions (`execution_nest` of `demand3`) and is short,
 // so there is no scan over all flags.
 pub fn execution(state: &Lent<'_>) -> i32
     requires { state.now.core.depth ≤ length state.now.nest.now }

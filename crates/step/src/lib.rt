@@ -1,4 +1,4 @@
-// Any event on a lent state, for every chip. What an event leaves is sound again (`act-sound` of `demand3`), so a run of many events
+// Any event on a lent state, for every chip. What an event leaves is sound again (`act_sound` of `demand3`), so a run of many events
 // tests its state once.
 #![tactic(auto)]
 

@@ -1,4 +1,4 @@
--- Each piece that agrees moves on in `want` (`judging-next`); where the script has ended and `want` too, they are the same.
+-- Each piece that agrees moves on in `want`; where the script has ended and `want` too, they are the same.
 use native.Mathlib.Omega.{arith}
 use Rattle.numbers.specs.NumberLaws.{Bytes}
 use Rattle.pieces.proofs.Headway.{left_falls, headway}

@@ -1,4 +1,4 @@
--- Each piece that agrees moves on in `want` (`judging-next`); where the script has ended and `want` too, they are the same.
+-- Each piece that agrees moves on in `want`; where the script has ended and `want` too, they are the same.
 use Prim.Native.Nat.{◌-◌}
 use mathlib.Core.Path.{◌≡◌}
 use lib.ListN.{length}

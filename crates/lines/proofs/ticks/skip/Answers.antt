@@ -1,4 +1,4 @@
--- So many ticks move the timer, and nothing else but 15's pending flag (`skip-timer`).
+-- So many ticks move the timer, and nothing else but 15's pending flag (`skip_timer`).
 use mathlib.Core.Path.{◌∙◌}
 use Rattle.rules.specs.SkipLaws.{skip_timer}
 use Rattle.lines.proofs.ticks.skip.Goals as goal

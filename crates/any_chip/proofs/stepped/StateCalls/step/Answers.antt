@@ -18,7 +18,7 @@ meets q p = p ∙ q
 pub returns : goal.returns
 returns c =
     let z : Sized c.args.self = record { pending = search rules; active = search rules; enabled = search rules; level = search rules; priority = search rules; nest = search rules; lost = search rules } in
-    let after : Model = model_of c.step_on-outcome.new.pending c.step_on-outcome.new.active c.step_on-outcome.new.enabled c.step_on-outcome.new.level c.step_on-outcome.new.priority c.step_on-outcome.new.nest c.step_on-outcome.new.lost c.step_on-outcome.result.1 in
-    let back : replied c.reached-reach.result c.args.self (beside (numbers c.step_on-outcome.result.0) after) ≡ reply c.args.self.setup (step_of (chip_of c.args.self.setup) (model c.args.self) c.args.event) =
-    step_back c.args.self z c.chip.result c.chip.ensures c.reached-reach.result c.reached-reach.ensures.value c.args.event _ (sym (answered c.step_on-outcome.result.0 after) ∙ c.step_on-outcome.ensures) in
+    let after : Model = model_of c.step_on-outcome.new.pending c.step_on-outcome.new.active c.step_on-outcome.new.enabled c.step_on-outcome.new.level c.step_on-outcome.new.priority c.step_on-outcome.new.nest c.step_on-outcome.new.lost c.step_on-outcome.new.core in
+    let back : replied c.reach_on-reach.result c.args.self (beside (numbers c.step_on-outcome.result) after) ≡ reply c.args.self.setup (step_of (chip_of c.args.self.setup) (model c.args.self) c.args.event) =
+    step_back c.args.self z c.chip.result c.chip.ensures c.reach_on-reach.result c.reach_on-reach.ensures.value c.args.event _ (sym (answered c.step_on-outcome.result after) ∙ c.step_on-outcome.ensures) in
     meets back (search rules)
