@@ -10,9 +10,12 @@ ghost use Rattle.places.specs.Places.{reach_of};
 ghost use Rattle.any_chip.specs.View.{reach_in, model, state};
 
 use places::{Arrays, Reach};
-use rules::{Core, Lent, Setup};
+use rules::{Core, Setup, Shown};
 
 mod stepped;
+
+// What a caller brings into scope to call a `State`.
+pub use calls::Calls;
 
 // Beside the `State` of `model`, which has neither setup nor reach and is compiled for its lengths. Flags and priority bytes stand at exception numbers; the nest holds the active exceptions, the newest last; `lost` counts the rises
 // that each line lost. A chip has the first places of each array, and the others are clear. `core` has the nest's depth and every part that holds no array of the chip's size.
@@ -121,7 +124,7 @@ impl State {
     }
 
     // The tests of refusals 17 and 16.
-    pub fn is_sound(mut self) -> bool
+    pub fn is_sound(self) -> bool
         ensures { result ≡ (fits (chip_of self.setup) && is_sound (chip_of self.setup) (model self)) }
     {
         let chip = self.setup.chip();
@@ -129,16 +132,16 @@ impl State {
             return false;
         }
         let reach = self.reached();
-        let lent = Lent {
-            pending: &mut self.pending[..reach.places],
-            active: &mut self.active[..reach.places],
-            enabled: &mut self.enabled[..reach.places],
-            level: &mut self.level[..reach.places],
-            priority: &mut self.priority[..reach.places],
-            nest: &mut self.nest[..reach.nest],
-            lost: &mut self.lost[..reach.lost],
-            core: self.core,
+        let shown = Shown {
+            pending: &self.pending[..reach.places],
+            active: &self.active[..reach.places],
+            enabled: &self.enabled[..reach.places],
+            level: &self.level[..reach.places],
+            priority: &self.priority[..reach.places],
+            nest: &self.nest[..reach.nest],
+            lost: &self.lost[..reach.lost],
+            core: &self.core,
         };
-        sound_state::is_sound(chip, &lent)
+        sound_state::is_sound(chip, shown)
     }
 }

@@ -10,9 +10,11 @@ mod show;
 mod unsound_states;
 mod widths;
 
+use output::Tolerant;
 use rules::Part;
 
 fn main(rt: HostRuntime) -> std::io::Result<()> {
+    let rt = Tolerant(rt);
     registers::lines(&rt)?;
     registers::entries(&rt)?;
     registers::kept_bits(&rt)?;

@@ -4,6 +4,7 @@
 
 use command::Bench;
 use model::State;
+use output::Tolerant;
 
 mod command;
 mod parse;
@@ -26,6 +27,7 @@ fn run(rt: &impl Print, text: &[u8]) -> std::io::Result<()> {
 
 // `io` reads the input into fixed memory.
 fn main(rt: HostRuntime) -> std::io::Result<()> {
+    let rt = Tolerant(rt);
     let mut space = io::large_buffer();
     let n = io::read_full(STDIN_FILENO, &mut space);
     run(&rt, &space[..n])

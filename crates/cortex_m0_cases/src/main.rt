@@ -6,7 +6,10 @@ mod called;
 mod handed;
 mod show;
 
+use output::Tolerant;
+
 fn main(rt: HostRuntime) -> std::io::Result<()> {
+    let rt = Tolerant(rt);
     called::run(&rt)?;
     handed::run(&rt)
 }

@@ -1,6 +1,5 @@
 // The second example of README.md: a chip is named, and its last line is enabled, rises and is entered.
-use any_chip::State;
-use calls::Calls;
+use any_chip::{Calls, State};
 use mpu::Edition;
 use rules::{Part, Setup};
 use std::io::Result;

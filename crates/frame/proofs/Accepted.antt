@@ -1,10 +1,12 @@
 -- Refusals 12 and 11 in exactly their cases: a stacking or an unstacking is accepted just where each fact below holds.
-use Rattle.std.specs.Prelude.{ℕ, ◌+◌, ◌%◌, ◌^◌, ◌≡◌, refl, Bool, true, false, cond, Result, Ok, Err, ◌&&◌, leb, ltb, eqb}
+use Rattle.std.specs.Prelude.{ℕ, ◌+◌, ◌-◌, ◌%◌, ◌^◌, ◌≡◌, refl, Bool, true, false, cond, List, Result, Ok, Err, ◌&&◌, length, leb, ltb, eqb}
 use Rattle.std.proofs.Math.Bool.{and-eq-true_iff}
 use Rattle.std.proofs.Common.{ap, arith, leb-true, ltb-true, eqb-true, le-leb, lt-ltb, eq-eqb}
 use Rattle.refusals.specs.declared.Refusal.{Refusal}
 use Rattle.refusals.specs.declared.Refusal.TheVariants as refusal
-use Rattle.frame.specs.Frame.{window_fits, holds_frame, frame_at, stack_fits, refusal_of, checked, stack_refusal, unstack_fits, unstack_refusal}
+use Rattle.frame.specs.declared.Unstacked.{Unstacked}
+use Rattle.frame.specs.Answers.{stack_answer, unstack_answer}
+use Rattle.frame.specs.Frame.{window_fits, holds_frame, frame_at, stack_fits, refusal_of, checked, stack_refusal, stacked, words_at, restored_sp, unstack_fits, unstack_refusal, gave_back, unstacked}
 use Rattle.frame.specs.Accepted.{Fits, Holds, StackAccepted, UnstackAccepted}
 
 pub fits_of : (base len : ℕ) → window_fits base len ≡ true → Fits base len
@@ -50,6 +52,29 @@ unfolding refusal_of checked
 failed true true x r e = let z : ◌≡◌ {A = ℕ} 0 1 = cc in let y : ⊥ = omega arith in absurd y
 failed true false x r e = let q : refusal.Frame ≡ r = cc in (λ z. omega arith, ap Err q)
 failed false frame x r e = let q : refusal.Window ≡ r = cc in (λ z. omega arith, ap Err q)
+
+-- the refusal that a stacking or an unstacking answers is that of its two tests, 12 before 11, and 0 where it is accepted
+stack_said : (window frame : Bool) (x : ℕ) → (stack_answer (Answer window frame (Ok x))).refusal ≡ refusal_of window frame
+unfolding refusal_of
+stack_said true true x = refl
+stack_said true false x = refl
+stack_said false frame x = refl
+
+unstack_said : (window frame : Bool) (u : Unstacked) → (unstack_answer (Answer window frame (Ok u))).refusal ≡ refusal_of window frame
+unfolding refusal_of
+unstack_said true true u = refl
+unstack_said true false u = refl
+unstack_said false frame u = refl
+
+pub stack_number : (base len sp : ℕ) (align : Bool) → (stack_answer (stacked base len sp align)).refusal ≡ stack_refusal base len sp align
+unfolding stacked
+stack_number base len sp align = stack_said (window_fits base len) (stack_fits base len sp align) (frame_at align sp)
+
+pub unstack_number : (base : ℕ) (window : List ℕ) (sp : ℕ) (align : Bool) → (unstack_answer (unstacked base window sp align)).refusal ≡ unstack_refusal base (length window) sp
+unfolding unstacked
+unstack_number base window sp align =
+    let w = words_at window (sp - base) in
+    unstack_said (window_fits base (length window)) (unstack_fits base (length window) sp) (record { sp = restored_sp align sp w.xpsr; words = w })
 
 pub stack_accepted : (base len sp : ℕ) (align : Bool) → stack_refusal base len sp align ≡ 0 → StackAccepted base len sp align
 unfolding stack_fits

@@ -2,6 +2,7 @@
 #![tactic(auto)]
 
 use frame::Words;
+use output::Tolerant;
 use std::io::Result;
 
 // Bytes 1 to 28 in the order of their addresses, then xPSR.
@@ -107,6 +108,7 @@ fn off_base(rt: &impl Print, window: &mut [u8]) -> Result<()> {
 }
 
 fn main(rt: HostRuntime) -> Result<()> {
+    let rt = Tolerant(rt);
     let mut ram = [0u8; 2048];
     starred(&rt, &mut ram)?;
     let mut low = [0u8; 64];

@@ -7,7 +7,10 @@ mod registers;
 mod show;
 mod verdicts8;
 
+use output::Tolerant;
+
 fn main(rt: HostRuntime) -> std::io::Result<()> {
+    let rt = Tolerant(rt);
     verdicts8::run(&rt)?;
     registers::run(&rt)?;
     called::run(&rt)

@@ -18,9 +18,10 @@ pub fn step(chip: Chip, state: &mut Lent<'_>, event: Event) -> Outcome
     if !chip.fits() {
         return Err(Refusal::Setup);
     }
-    if !sound_state::is_sound(chip, state) {
+    let shown = state.shown();
+    if !sound_state::is_sound(chip, shown) {
         return Err(Refusal::Unsound);
     }
-    let limit = sound_state::execution(state);
+    let limit = sound_state::execution(shown);
     step::act(chip, state, limit, event)
 }

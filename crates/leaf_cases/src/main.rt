@@ -9,7 +9,10 @@ mod skips;
 mod ticks;
 mod words;
 
+use output::Tolerant;
+
 fn main(rt: HostRuntime) -> std::io::Result<()> {
+    let rt = Tolerant(rt);
     words::run(&rt)?;
     order::run(&rt)?;
     ticks::run(&rt)?;

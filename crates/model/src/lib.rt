@@ -9,9 +9,12 @@ ghost use Rattle.rules.specs.Sound.{is_sound};
 ghost use Rattle.model.specs.View.{model, state};
 
 use mpu::Edition;
-use rules::{Chip, Core, Lent, Profile};
+use rules::{Chip, Core, Profile, Shown};
 
 mod stepped;
+
+// What a caller brings into scope to call a `State`.
+pub use calls::Calls;
 
 // Flags and priority bytes stand at exception numbers; the nest holds the active exceptions, the newest last; `lost` counts the rises that
 // each line lost. `core` has the nest's depth and every part that holds no array of the chip's size.
@@ -90,19 +93,19 @@ impl State {
     }
 
     // The test of refusal 16.
-    pub fn is_sound(mut self) -> bool
+    pub fn is_sound(self) -> bool
         ensures { result ≡ is_sound chip55 (model self) }
     {
-        let lent = Lent {
-            pending: &mut self.pending,
-            active: &mut self.active,
-            enabled: &mut self.enabled,
-            level: &mut self.level,
-            priority: &mut self.priority,
-            nest: &mut self.nest,
-            lost: &mut self.lost,
-            core: self.core,
+        let shown = Shown {
+            pending: &self.pending,
+            active: &self.active,
+            enabled: &self.enabled,
+            level: &self.level,
+            priority: &self.priority,
+            nest: &self.nest,
+            lost: &self.lost,
+            core: &self.core,
         };
-        sound_state::is_sound(CHIP, &lent)
+        sound_state::is_sound(CHIP, shown)
     }
 }

@@ -5,7 +5,7 @@ ghost use Rattle.std.specs.Prelude.{◌≡◌, List, ℕ, ◌≤◌, ◌+◌, le
 ghost use Rattle.refusals.specs.Refusals.{number_of};
 ghost use Rattle.decimal.specs.Decimal.{line_room};
 ghost use Rattle.rules.specs.declared.Chip.{Chip};
-ghost use Rattle.rules.specs.Lent.{view};
+ghost use Rattle.rules.specs.Lent.{seen};
 ghost use Rattle.rules.specs.Model.{fresh};
 ghost use Rattle.parts.specs.Numbers.{numbers};
 ghost use Rattle.text.specs.Text.{text_of};
@@ -13,7 +13,7 @@ ghost use Rattle.pieces.specs.Pieces.{started, Usable, rest_of};
 ghost use Rattle.pieces.specs.Steps.{unmoved, refused, going, finished, Unrun, Told, Stuck, Closed};
 
 use refusals::Refusal;
-use rules::{Chip, Core, Lent, Outcome};
+use rules::{Chip, Core, Outcome, Shown};
 
 // How far a script has run, beside the lists of the state: its other parts after `events` events, the offset of the next, whether the
 // script has ended, how many bytes of the buffer the last call wrote, and 17 or 16 where it was refused: numbers, since `Ran` speaks of them.
@@ -122,14 +122,14 @@ pub fn close(script: &[u8], p: Course, refusal: Refusal, out: &mut [u8]) -> Cour
 
 // The line of an event, from its outcome and the state that it left. Called with room for the line.
 pub fn put_answer(
-    state: &Lent<'_>,
+    state: Shown<'_>,
     outcome: Outcome,
     number: u32,
     out: &mut [u8],
     at: usize,
 ) -> Line
-    requires { (state.now.core.depth ≤ length state.now.nest.now) × (at + line_room ≤ length out.old) }
-    ensures { Told (view state.now) (numbers outcome) number at out.old result.limit result.end out.new }
+    requires { (state.core.now.depth ≤ length state.nest.now) × (at + line_room ≤ length out.old) }
+    ensures { Told (seen state.entry) (numbers outcome) number at out.old result.limit result.end out.new }
 {
     let done = parts::numbered(outcome);
     let limit = sound_state::execution(state);

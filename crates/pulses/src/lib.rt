@@ -3,14 +3,14 @@
 
 ghost use Rattle.std.specs.Prelude.{◌≡◌, suc, min};
 ghost use Rattle.rules.specs.Model.{with_lost};
-ghost use Rattle.rules.specs.Lent.{SameLoan, answer, view};
+ghost use Rattle.rules.specs.Lent.{SameLoan, answer, seen, view};
 ghost use Rattle.rules.specs.Events.{loses_rise, one_more, counted, lost_call};
 
 use nvic::flags::flag_at;
 use nvic::lists::at_or;
 use parts::accepted;
 use refusals::Refusal;
-use rules::{Chip, Lent, Outcome};
+use rules::{Chip, Lent, Outcome, Shown};
 
 // Whether the line of exception n loses a rise by going to a level.
 fn loses_rise(state: &Lent<'_>, n: usize, high: bool) -> bool
@@ -49,8 +49,8 @@ pub fn count(state: &mut Lent<'_>, line: u32, high: bool)
     }
 }
 
-pub fn lost(chip: Chip, state: &Lent<'_>, line: u32) -> Outcome
-    ensures { answer result (view state.now) ≡ lost_call chip (view state.now) line }
+pub fn lost(chip: Chip, state: Shown<'_>, line: u32) -> Outcome
+    ensures { answer result (seen state.entry) ≡ lost_call chip (seen state.entry) line }
 {
     if chip.lines <= line {
         return Err(Refusal::OutOfRange);

@@ -5,6 +5,7 @@ use Rattle.refusals.specs.declared.Refusal.{Refusal}
 use Rattle.refusals.specs.Refusals.{number_of}
 use Rattle.rules.specs.declared.Core.{Core}
 use Rattle.rules.specs.declared.Lent.{Lent}
+use Rattle.rules.specs.declared.Shown.{Shown}
 use Rattle.rules.specs.declared.Accepted.{Accepted}
 use Rattle.rules.specs.Model.{Model, Answer, refuse}
 
@@ -16,6 +17,10 @@ model_of pending active enabled level priority nest lost core =
 -- the model that a lent state is, as its lists are now
 abbrev pub view : Lent → Model
 view s = model_of s.pending.now s.active.now s.enabled.now s.level.now s.priority.now s.nest.now s.lost.now s.core
+
+-- the model that a shown state is
+abbrev pub seen : Shown → Model
+seen s = model_of s.pending.now s.active.now s.enabled.now s.level.now s.priority.now s.nest.now s.lost.now s.core.now
 
 -- Between two moments the same lists are lent: what stands in them at the second is what the lender gets back.
 pub record SameLoan (s t : Lent) : Type 0 where

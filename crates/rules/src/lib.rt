@@ -4,6 +4,7 @@
 
 ghost use Rattle.std.specs.Prelude.{◌≡◌};
 ghost use Rattle.rules.specs.Chip.{chip_of, is_armv6m, fits};
+ghost use Rattle.rules.specs.Lent.{seen, view};
 
 use bools::both;
 use mpu::{Edition, Mpu, MpuRegister};
@@ -149,6 +150,36 @@ pub struct Lent<'a> {
     pub nest: &'a mut [u8],
     pub lost: &'a mut [u16],
     pub core: Core,
+}
+
+// The same state, lent to be looked at.
+#[derive(Clone, Copy)]
+pub struct Shown<'a> {
+    pub pending: &'a [bool],
+    pub active: &'a [bool],
+    pub enabled: &'a [bool],
+    pub level: &'a [bool],
+    pub priority: &'a [u8],
+    pub nest: &'a [u8],
+    pub lost: &'a [u16],
+    pub core: &'a Core,
+}
+
+impl Lent<'_> {
+    pub fn shown(&self) -> Shown<'_>
+        ensures { seen result ≡ view self.now }
+    {
+        Shown {
+            pending: self.pending,
+            active: self.active,
+            enabled: self.enabled,
+            level: self.level,
+            priority: self.priority,
+            nest: self.nest,
+            lost: self.lost,
+            core: &self.core,
+        }
+    }
 }
 
 // What a call answers that is not refused: the value, and of an entry the vector address and the link value.

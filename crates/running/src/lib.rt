@@ -15,7 +15,7 @@ fn is_usable(chip: Chip, state: &Lent<'_>, p: Course) -> bool
     requires { FewLines chip }
     ensures { result ≡ is_usable chip (view state.now) p }
 {
-    sound_state::is_sound(chip, state) && p.events as usize <= p.at
+    sound_state::is_sound(chip, state.shown()) && p.events as usize <= p.at
 }
 
 // The state is not tested at each event: a sound state is sound after any event (`act_sound` of `demand3`).
@@ -30,7 +30,7 @@ fn run_events(
     ensures ran { Ran chip script.now (view state.old) course out.old (view state.new) result out.new }
     ensures loan { SameLoan state.old state.new }
 {
-    let mut limit = sound_state::execution(state);
+    let mut limit = sound_state::execution(state.shown());
     let mut at = course.at;
     let mut events = course.events;
     let mut wrote = 0;
@@ -45,7 +45,7 @@ fn run_events(
                 let outcome = step::act(chip, state, limit, event);
                 at = next;
                 events += 1;
-                let line = pieces::put_answer(state, outcome, events, out, wrote);
+                let line = pieces::put_answer(state.shown(), outcome, events, out, wrote);
                 limit = line.limit;
                 wrote = line.end;
             }

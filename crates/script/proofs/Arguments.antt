@@ -12,16 +12,27 @@ use lib.Dec.{ltb, leb-suc-suc}
 use borrow.Author.Tests.{lt-ltb, le-ltb}
 use Rattle.refusals.specs.declared.Refusal.{Refusal}
 use Rattle.refusals.specs.declared.Refusal.TheVariants as refusal
+use Rattle.numbers.specs.Number.{number_refusal}
 use Rattle.script.specs.declared.Event.{Event}
+use Rattle.script.specs.Answers.{read_answer}
 use Rattle.script.specs.Event.{arity}
 use Rattle.script.specs.EventLaws.{arity_few}
-use Rattle.script.specs.Reading.{Numbers, numbers, broken, before, then, numbers_at, event_of, with_arguments}
+use Rattle.script.specs.Reading.{Numbers, numbers, broken, before, then, numbers_at, event_of, with_arguments, with_kind}
 use Rattle.script.specs.Steps.{number_if}
 
 -- what a `?` hands on where no number stands
 pub no_number : {A : Type 0} (o : Option A) (r : Refusal) → Err r ≡ ok_or o refusal.Number → r ≡ refusal.Number
 no_number None r e = cc
 no_number (Some a) r e = let z : ◌≡◌ {A = ℕ} 0 1 = cc in let x : ⊥ = omega arith in absurd x
+
+-- the refusal of a script's number is that of an event that it stands in, as its kind or among its arguments
+pub kind_refused : (bytes : List ℕ) → (read_answer (with_kind bytes None)).refusal ≡ number_refusal None
+unfolding with_kind
+kind_refused bytes = refl
+
+pub argument_refused : (kind : ℕ) → (read_answer (with_arguments kind broken)).refusal ≡ number_refusal None
+unfolding with_arguments
+argument_refused kind = refl
 
 there_next : (i count : ℕ) → ltb (suc i) count ≡ ltb i (count - 1)
 there_next i zero = le-ltb (suc i) 0 (omega arith) ∙ sym (le-ltb i 0 (omega arith))

@@ -7,17 +7,17 @@ ghost use Rattle.priority.specs.Priority.{execution_nested};
 ghost use Rattle.systick.specs.Timer.{sound_timer};
 ghost use Rattle.mpu.specs.Soundness.{sound_mpu};
 ghost use Rattle.bools.specs.Every.{every};
-ghost use Rattle.rules.specs.Lent.{view};
+ghost use Rattle.rules.specs.Lent.{seen};
 ghost use Rattle.rules.specs.Sound.{is_sized, count_sound, sound_system, is_sound};
 
-use rules::{Chip, Core, Lent};
+use rules::{Chip, Core, Shown};
 
 mod bare;
 
 // The lists have the chip's lengths.
 #[tactic(auto, unfolding(rules::specs::Sound::is_sized))]
-fn is_sized(chip: Chip, state: &Lent<'_>) -> bool
-    ensures { result ≡ is_sized chip (view state.now) }
+fn is_sized(chip: Chip, state: Shown<'_>) -> bool
+    ensures { result ≡ is_sized chip (seen state.entry) }
 {
     let flags = exceptions::flag_count(chip);
     let exceptions = exceptions::exception_count(chip);
@@ -50,23 +50,23 @@ fn sound_counts(chip: Chip, lost: &[u16]) -> bool
 }
 
 #[tactic(auto, using(crate::proofs::Laws::sized), unfolding(rules::specs::Sound::is_sound))]
-pub fn is_sound(chip: Chip, state: &Lent<'_>) -> bool
-    ensures { result ≡ is_sound chip (view state.now) }
+pub fn is_sound(chip: Chip, state: Shown<'_>) -> bool
+    ensures { result ≡ is_sound chip (seen state.entry) }
 {
     is_sized(chip, state)
         && soundness::sound_flags(chip, state)
         && soundness::bytes_sound(chip, state.priority)
         && soundness::sound_nest(chip, state.active, state.nest, state.core.depth)
         && sound_counts(chip, state.lost)
-        && is_core_sound(chip, state.core)
-        && bare::fits_profile(chip, state.core)
+        && is_core_sound(chip, *state.core)
+        && bare::fits_profile(chip, *state.core)
 }
 
 // The execution priority of a sound state: its nest holds exactly the active exceptions (`execution_nest` of `demand3`) and is short,
 // so there is no scan over all flags.
-pub fn execution(state: &Lent<'_>) -> i32
-    requires { state.now.core.depth ≤ length state.now.nest.now }
-    ensures { result ≡ execution_nested state.now.core.group state.now.priority.now state.now.nest.now state.now.core.depth state.now.core.masks.basepri state.now.core.masks.primask state.now.core.masks.faultmask }
+pub fn execution(state: Shown<'_>) -> i32
+    requires { state.core.now.depth ≤ length state.nest.now }
+    ensures { result ≡ execution_nested state.entry.core.now.group state.entry.priority.now state.entry.nest.now state.entry.core.now.depth state.entry.core.now.masks.basepri state.entry.core.now.masks.primask state.entry.core.now.masks.faultmask }
 {
     let core = state.core;
     let masks = core.masks;

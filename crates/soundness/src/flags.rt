@@ -6,7 +6,7 @@ ghost use Rattle.bools.specs.Every.{every};
 ghost use Rattle.rules.specs.Sound.{flag_sound, sound_flags};
 
 use exceptions::stands;
-use rules::{Chip, Lent, Place};
+use rules::{Chip, Place, Shown};
 
 // A flag that is not set costs one test.
 fn flag_fits(flag: bool, chip: Chip, place: Place, n: usize) -> bool
@@ -30,9 +30,9 @@ fn flags_sound(chip: Chip, place: Place, flags: &[bool]) -> bool
 
 // The lists of a state have the chip's lengths.
 #[tactic(auto, unfolding(rules::specs::Sound::sound_flags))]
-pub fn sound_flags(chip: Chip, state: &Lent<'_>) -> bool
-    requires { (length state.now.pending.now ≡ flag_count chip) × (length state.now.active.now ≡ flag_count chip) × (length state.now.enabled.now ≡ flag_count chip) × (length state.now.level.now ≡ flag_count chip) }
-    ensures { result ≡ sound_flags chip state.now.pending.now state.now.active.now state.now.enabled.now state.now.level.now }
+pub fn sound_flags(chip: Chip, state: Shown<'_>) -> bool
+    requires { (length state.pending.now ≡ flag_count chip) × (length state.active.now ≡ flag_count chip) × (length state.enabled.now ≡ flag_count chip) × (length state.level.now ≡ flag_count chip) }
+    ensures { result ≡ sound_flags chip state.entry.pending.now state.entry.active.now state.entry.enabled.now state.entry.level.now }
 {
     flags_sound(chip, Place::Exception, state.pending)
         && flags_sound(chip, Place::Exception, state.active)

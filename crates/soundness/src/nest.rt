@@ -99,7 +99,7 @@ fn are_distinct(nest: &[u8], depth: usize) -> bool
     ok
 }
 
-// Of a state these searches look at two lists and the depth, hence no `Lent`. The arrays of a state have the chip's lengths. A depth above the nest's fails first, so that no search reads past the end.
+// Of a state these searches look at two lists and the depth, hence no `Shown`. The arrays of a state have the chip's lengths. A depth above the nest's fails first, so that no search reads past the end.
 #[tactic(auto, unfolding(rules::specs::Sound::sound_nest))]
 pub fn sound_nest(chip: Chip, active: &[bool], nest: &[u8], depth: usize) -> bool
     requires { (length active.now ≡ flag_count chip) × (length nest.now ≡ exception_count chip) }

@@ -31,7 +31,7 @@ pub fn act(chip: Chip, state: &mut Lent<'_>, limit: i32, event: Event) -> Outcom
             let number = u32::from(kind);
             access::access_by(chip, state.core, limit, number, width, address)
         }
-        Event::Lost(line) => pulses::lost(chip, state, line),
+        Event::Lost(line) => pulses::lost(chip, state.shown(), line),
         Event::Skip(count) => lines::ticks::skip(state, count),
     }
 }

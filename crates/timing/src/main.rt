@@ -4,6 +4,7 @@
 
 use calls::Calls;
 use model::State;
+use output::Tolerant;
 
 const STDIN_FILENO: i32 = 0;
 
@@ -41,6 +42,7 @@ fn run_often(script: &[u8]) -> u64 {
 
 // `io` reads the script into fixed memory.
 fn main(rt: HostRuntime) -> std::io::Result<()> {
+    let rt = Tolerant(rt);
     let mut space = [0u8; 65537];
     let n = io::read_full(STDIN_FILENO, &mut space);
     let sum = run_often(&space[..n]);

@@ -6,6 +6,7 @@
 
 use any_chip::State;
 use calls::Calls;
+use output::Tolerant;
 use rules::Setup;
 
 const STDIN_FILENO: i32 = 0;
@@ -48,5 +49,6 @@ fn main(rt: HostRuntime) -> std::io::Result<()> {
     let n = io::read_full(STDIN_FILENO, &mut space);
     let words = setup_words::named(&rt);
     let sum = run_often(&space[..n], words.setup);
+    let rt = Tolerant(rt);
     println!(rt; "{sum}")
 }

@@ -10,6 +10,7 @@ ghost use Rattle.text.specs.Text.{text_of};
 ghost use Rattle.vectors.specs.Agree.{Agree};
 ghost use Rattle.vectors.specs.Way.{chip_by};
 
+use output::Tolerant;
 use rules::Setup;
 use std::fs::File;
 use std::io::{Read, Result, Write};
@@ -103,10 +104,10 @@ fn difference(way: Way, script: &[u8], want: &[u8]) -> Option<usize>
 }
 
 // The argument that names a file, whatever its bytes.
-fn name(rt: &(impl Env + Print), i: usize) -> Result<()> {
+fn name(rt: &impl Env, out: &impl Print, i: usize) -> Result<()> {
     let mut space = [0u8; 64];
     let n = setup_words::argument(rt, i, &mut space);
-    std::io::writer(rt).write_all(&space[..n])
+    std::io::writer(out).write_all(&space[..n])
 }
 
 // Reads until `space` is full, the file ends or a read fails, and returns how many bytes stand at the start of `space`. A while: a read moves the
@@ -142,35 +143,40 @@ fn read_file<R: Env + Files>(rt: &R, i: usize, space: &mut [u8]) -> Option<usize
     if n < space.len() { Some(n) } else { None }
 }
 
-fn unread(rt: &(impl Env + Print), i: usize) -> Result<()> {
-    name(rt, i)?;
-    println!(rt; " cannot be read")
+fn unread(rt: &impl Env, out: &impl Print, i: usize) -> Result<()> {
+    name(rt, out, i)?;
+    println!(out; " cannot be read")
 }
 
-fn judged(rt: &(impl Env + Print), i: usize, difference: Option<usize>) -> Result<bool> {
+fn judged(rt: &impl Env, out: &impl Print, i: usize, difference: Option<usize>) -> Result<bool> {
     let Some(line) = difference else {
         return Ok(true);
     };
-    name(rt, i)?;
-    println!(rt; " differs first in line {line}")?;
+    name(rt, out, i)?;
+    println!(out; " differs first in line {line}")?;
     Ok(false)
 }
 
 // The script that an argument names, and the lines that the next one names: whether they agree.
-fn vector<R: Env + Files + Print>(rt: &R, way: Way, i: usize) -> Result<bool>
+fn vector<R: Env + Files>(rt: &R, out: &impl Print, way: Way, i: usize) -> Result<bool>
     requires { i + 1 < 2 ^ 64 }
 {
     let mut script = [0u8; 65538];
     let mut want = [0u8; 262144];
     let Some(length) = read_file(rt, i, &mut script) else {
-        unread(rt, i)?;
+        unread(rt, out, i)?;
         return Ok(false);
     };
     let Some(wanted) = read_file(rt, i + 1, &mut want) else {
-        unread(rt, i + 1)?;
+        unread(rt, out, i + 1)?;
         return Ok(false);
     };
-    judged(rt, i, difference(way, &script[..length], &want[..wanted]))
+    judged(
+        rt,
+        out,
+        i,
+        difference(way, &script[..length], &want[..wanted]),
+    )
 }
 
 fn is_word(rt: &impl Env, i: usize) -> bool {
@@ -181,6 +187,7 @@ fn is_word(rt: &impl Env, i: usize) -> bool {
 
 // Words that follow one another name one setup: `words` are those since the last vector. Words that are wrong are reported, and leave the way.
 fn main(rt: HostRuntime) -> Result<()> {
+    let out = Tolerant(rt);
     let pairs = setup_words::argument_count(&rt) / 2;
     let mut way = Way::Run;
     let mut words = None;
@@ -193,17 +200,17 @@ fn main(rt: HostRuntime) -> Result<()> {
             let named = setup_words::pair_at(&rt, before, i, i + 1);
             words = Some(named);
             if named.wrong {
-                unread(&rt, i)?;
+                unread(&rt, &out, i)?;
             } else {
                 way = Way::AnyRun(named.setup);
             }
         } else {
             words = None;
             vectors += 1;
-            if vector(&rt, way, i)? {
+            if vector(&rt, &out, way, i)? {
                 agreed += 1;
             }
         }
     }
-    println!(rt; "{agreed} of {vectors} vectors agree")
+    println!(out; "{agreed} of {vectors} vectors agree")
 }

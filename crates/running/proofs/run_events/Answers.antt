@@ -1,6 +1,6 @@
 -- Each event's line is written before the next is read (`Going`), until no line has room or no event can be read.
 use Prim.Native.Nat.{◌+◌, ◌≤◌}
-use mathlib.Core.Path.{◌≡◌, refl, sym, subst, ◌∙◌}
+use mathlib.Core.Path.{◌≡◌, ap, refl, sym, subst, ◌∙◌}
 use native.Mathlib.Omega.{arith}
 use lib.ListN.{length}
 use mir.Facts.{to_z-of_z}
@@ -10,8 +10,9 @@ use Rattle.parts.specs.Numbers.{numbers}
 use Rattle.parts.proofs.Laws.{beside, answered}
 use Rattle.rules.specs.declared.Lent.{Lent}
 use Rattle.rules.specs.declared.Chip.{Chip}
-use Rattle.rules.specs.Lent.{SameLoan, view}
+use Rattle.rules.specs.Lent.{SameLoan, seen, view}
 use Rattle.rules.specs.Model.{Model, Answer}
+use Rattle.rules.specs.Priorities.{execution}
 use Rattle.rules.specs.Step.{act_of}
 use Rattle.script.specs.declared.Event.{Event}
 use Rattle.rules.specs.Sound.{Sound}
@@ -42,7 +43,8 @@ through a b =
 
 pub execution-limit-requires : goal.execution-limit-requires
 execution-limit-requires c =
-    let s = (usable_of _ _ _ c.requires.1.tested).sound in
+    let u = usable_of _ _ _ c.requires.1.tested in
+    let s = rw (← c.shown.ensures) at u.sound in
     let d = depth_fits s in
     let l = s.places.size in
     omega arith
@@ -50,7 +52,9 @@ execution-limit-requires c =
 pub loop-out-init : goal.loop-out-init
 loop-out-init c =
     let u = usable_of _ _ _ c.requires.1.tested in
-    (going_first _ _ _ _ _ _ u.sound u.counted, (to_z-of_z {w = w32} (search rules) ∙ c.execution-limit.ensures ∙ execution_nest u.sound, search rules))
+    let s = rw (← c.shown.ensures) at u.sound in
+    let x = c.execution-limit.ensures ∙ execution_nest s ∙ ap execution c.shown.ensures in
+    (going_first _ _ _ _ _ _ u.sound u.counted, (to_z-of_z {w = w32} (search rules) ∙ x, search rules))
 
 pub returns-in-Err-clause-ran : goal.returns-in-Err-clause-ran
 returns-in-Err-clause-ran c =
@@ -64,7 +68,8 @@ overflow_add-events c =
 
 pub put_answer-line-requires : goal.put_answer-line-requires
 put_answer-line-requires c =
-    let s = after c.loop-out.invariant.0.sound c.in-Ok.event _ (sym (answered c.act-outcome.result (view c.act-outcome.new.state)) ∙ c.act-outcome.ensures.answer) in
+    let a = after c.loop-out.invariant.0.sound c.in-Ok.event _ (sym (answered c.act-outcome.result (view c.act-outcome.new.state)) ∙ c.act-outcome.ensures.answer) in
+    let s : Sound c.args.chip (seen c.shown-in-Ok.result) = subst (Sound c.args.chip) (sym c.shown-in-Ok.ensures) a in
     let d = depth_fits s in
     let l = s.places.size in
     let h : c.loop-out.wrote + line_room ≤ length c.loop-out.out = omega (arith, c.loop-out-test.true, c.loop-out.invariant.0.within, c.loop-out.invariant.0.sized) in
@@ -80,9 +85,10 @@ loop-out-preserved c =
     let o : One c.args.script.now c.loop-out.at c.in-Ok.event c.in-Ok.next = one_of _ c.requires.1.short (λ i. omega (arith, c.type_inv.script i)) _ _ _ (sym c.read_event.ensures.value ∙ c.in-Ok.is) in
     let a : Answer = beside (numbers c.act-outcome.result) (view c.act-outcome.new.state) in
     let q : a ≡ act_of c.args.chip (view c.loop-out.state) c.in-Ok.event = sym (answered c.act-outcome.result (view c.act-outcome.new.state)) ∙ c.act-outcome.ensures.answer in
-    let x = c.put_answer-line.ensures.priority ∙ execution_nest (after c.loop-out.invariant.0.sound c.in-Ok.event a q) in
+    let t = rw c.shown-in-Ok.ensures at c.put_answer-line.ensures in
+    let x = t.priority ∙ execution_nest (after c.loop-out.invariant.0.sound c.in-Ok.event a q) in
     let h : c.loop-out.wrote + line_room ≤ length c.loop-out.out = omega (arith, c.loop-out-test.true, c.loop-out.invariant.0.within, c.loop-out.invariant.0.sized) in (
-      going_next c.loop-out.invariant.0 c.requires.1.fit _ _ o a q _ refl _ x _ _ h c.put_answer-line.ensures.line c.put_answer-line.ensures.within,
+      going_next c.loop-out.invariant.0 c.requires.1.fit _ _ o a q _ refl _ x _ _ h t.line t.within,
       (to_z-of_z {w = w32} (search rules) ∙ x, through c.loop-out.invariant.1.1 c.act-outcome.ensures.loan),
     )
 
